@@ -1,0 +1,6 @@
+pub mod Views
+pub mod Writes
+pub mod Logs
+pub mod Puts
+pub mod Walks
+pub mod Rows

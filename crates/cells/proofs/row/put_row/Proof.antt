@@ -1,0 +1,107 @@
+use Prim.Native.Nat.{_-_, _≤_}
+use mathlib.Core.Path.{_≡_, refl, sym, ap, _∙_}
+use native.Mathlib.Omega.{arith}
+use borrow.Author.Needs.{needs}
+use borrow.Author.Tests.{not-true, not-false}
+use lib.ListN.{length}
+use Rattle.cells.specs.Chip.{chip}
+use Rattle.cells.specs.Run.{view, plus}
+use Rattle.cells.specs.Row.{putRow}
+use Rattle.cells.proofs.Views.{plus-plus}
+use Rattle.cells.proofs.Puts.{said-cost}
+use Rattle.cells.proofs.Rows.{leftRow, row-all, row-none, row-held, row-failed}
+use Rattle.cells.proofs.row.put_row.Statement.{statement}
+use Rattle.cells.proofs.row.put_row.Tie as tie
+
+abbrev Inv-loop : tie.InvT-loop
+Inv-loop image₀ lives₀ at bytes writes₀ i₀ image lives writes i =
+    record {
+      most : i ≤ length bytes;
+      few : writes ≤ i;
+      cells-kept : length image ≡ length image₀;
+      lives-kept : length lives ≡ length lives₀;
+      rest : view (putRow bytes at (chip image₀ lives₀)) ≡ plus writes 0 (view (leftRow bytes at i (chip image lives)));
+    }
+
+abbrev μ-loop : tie.MeasureT-loop
+μ-loop image₀ lives₀ at bytes writes₀ i₀ image lives writes i = length bytes - i
+
+loop-holds : tie.Need-loop-holds Inv-loop μ-loop
+loop-holds c = record { most = omega arith; few = omega arith; cells-kept = refl; lives-kept = refl; rest = row-all _ _ _ }
+
+add-put : tie.Need-add-put Inv-loop μ-loop
+add-put c = omega arith
+
+shared-slice-read-put : tie.Need-shared-slice-read-put Inv-loop μ-loop
+shared-slice-read-put c = omega arith
+
+put-requires : tie.Need-put-requires Inv-loop μ-loop
+put-requires c κs = omega arith
+
+add-writes : tie.Need-add-writes Inv-loop μ-loop
+add-writes c = omega (arith, said-cost _ _ _ _ (c .before .before .before .before .before .put .ensures))
+
+add-t16 : tie.Need-add-t16 Inv-loop μ-loop
+add-t16 c = omega arith
+
+same-length : tie.Need-same-length Inv-loop μ-loop
+same-length c = search needs
+
+same-length-2 : tie.Need-same-length-2 Inv-loop μ-loop
+same-length-2 c = search needs
+
+returns : tie.Need-returns Inv-loop μ-loop
+returns c =
+    sym
+    (c .before .before .before .before .before .before .before .before .before .before .before .before .loop .inv .rest
+    ∙ ap (plus _ _) (row-failed _ _ _ _ (c .before .before .before .before .before .before .before .before .before .before .before .loop-test .taken) (c .before .before .before .before .before .before .before .put .ensures) (not-true _ (c .if1 .taken))))
+
+add-i : tie.Need-add-i Inv-loop μ-loop
+add-i c = omega arith
+
+loop-less : tie.Need-loop-less Inv-loop μ-loop
+loop-less c = omega arith
+
+loop-again : tie.Need-loop-again Inv-loop μ-loop
+loop-again c =
+    record {
+      most = omega arith;
+      few = omega (arith, said-cost _ _ _ _ (c .before .before .before .before .before .before .before .put .ensures));
+      cells-kept = omega arith;
+      lives-kept = omega arith;
+      rest =
+          c .before .before .before .before .before .before .before .before .before .before .before .before .loop .inv .rest
+          ∙ ap (plus _ _) (row-held _ _ _ _ (c .before .before .before .before .before .before .before .before .before .before .before .loop-test .taken) (c .before .before .before .before .before .before .before .put .ensures) (not-false _ (c .if1 .left)))
+          ∙ plus-plus _ _ _ _ _;
+    }
+
+same-length-3 : tie.Need-same-length-3 Inv-loop μ-loop
+same-length-3 c = search needs
+
+same-length-4 : tie.Need-same-length-4 Inv-loop μ-loop
+same-length-4 c = search needs
+
+returns-2 : tie.Need-returns-2 Inv-loop μ-loop
+returns-2 c = sym (c .before .loop .inv .rest ∙ row-none _ _ _ (c .before .loop .i) _ (omega arith))
+
+pub put-row-spec : {M : Type 1} → statement M
+put-row-spec =
+    tie.close
+    (tie.spec
+    Inv-loop
+    μ-loop
+    loop-holds
+    add-put
+    shared-slice-read-put
+    put-requires
+    add-writes
+    add-t16
+    same-length
+    same-length-2
+    returns
+    add-i
+    loop-less
+    loop-again
+    same-length-3
+    same-length-4
+    returns-2)

@@ -1,0 +1,5 @@
+pub mod Chip
+pub mod Run
+pub mod Log
+pub mod Put
+pub mod Row

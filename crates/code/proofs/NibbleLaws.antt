@@ -1,0 +1,84 @@
+-- The laws of a word and its nibbles (document 01, "Nibbles, bytes and Gray words").
+--   sixteens          a power of sixteen as a power of two
+--   nibble-small      a nibble is below 16
+--   nibble-past       a word of 32 bits has nothing past its eighth nibble
+--   word-small        so many nibbles make a word below that power of sixteen
+--   word-drop         the word of the nibbles from k on, one nibble down
+--   word-of-nibbles   the word of a word's nibbles is that word
+--   same-nibbles      words with equal nibbles are equal
+use mathlib.Core.Path.{_≡_, refl, sym, ap, _∙_, subst}
+use mathlib.Core.List.{List, [], _∷_}
+use Prim.Native.Nat.{ℕ, zero, suc, _+_, _-_, _*_, _/_, _%_, _^_, _≤_, _<_}
+use native.Mathlib.Nat.{not-suc-le-zero, pow-suc, mul-suc, mul-comm, one-le-pow, pow-le-pow-right, lt-of-lt-of-le, mod-lt, mod-eq-of-lt, mod-one, div-one, div-eq-of-lt, div-div-eq-div-mul}
+use native.Mathlib.Numerals.{sub-one}
+use native.Mathlib.Omega.{arith}
+use lib.Arith.{mod-mul, digits-lt}
+use lib.Dec.{lit<, lit≤}
+use lib.ListN.{length, getD, drop, length-drop, drop-of-length-le}
+use lib.Pow.{pow-add}
+use lib.Seq.{drop-cons, ext-getD}
+use Rattle.code.specs.Nibbles.{nibbleOf, wordOf}
+use Rattle.code.proofs.Tabulate.{tabulate, at}
+
+-- a power of sixteen as a power of two
+pub sixteens : (k : ℕ) → 16 ^ k ≡ 2 ^ (4 * k)
+sixteens zero = refl
+sixteens (suc k) =
+    pow-suc 16 k ∙ ap (λ (x : ℕ). x * 16) (sixteens k) ∙ sym (ap (λ (x : ℕ). 2 ^ x) (mul-suc 4 k) ∙ pow-add 2 (4 * k) 4)
+
+pub sixteens-positive : (k : ℕ) → 0 < 16 ^ k
+sixteens-positive k = one-le-pow k 16 (lit< tt)
+
+-- a nibble is below 16
+pub nibble-small : (w k : ℕ) → nibbleOf w k < 16
+unfolding nibbleOf
+nibble-small w k = mod-lt (w / 16 ^ k) (lit< tt)
+
+-- a word of 32 bits has nothing past its eighth nibble
+pub nibble-past : (w k : ℕ) → w < 2 ^ 32 → 8 ≤ k → nibbleOf w k ≡ 0
+unfolding nibbleOf
+nibble-past w k h l = ap (λ (x : ℕ). x % 16) (div-eq-of-lt (lt-of-lt-of-le h (pow-le-pow-right (lit< tt) l)))
+
+-- so many nibbles make a word below that power of sixteen
+pub word-small : (ns : List ℕ) → wordOf ns < 16 ^ length ns
+unfolding wordOf
+word-small [] = lit< tt
+word-small (n ∷ ns) = let h = word-small ns in let e = pow-suc 16 (length ns) in omega arith
+
+-- no nibbles from k on make the word 0
+pub word-none : (ns : List ℕ) (k : ℕ) → length ns ≤ k → wordOf (drop k ns) ≡ 0
+unfolding wordOf
+word-none ns k h = ap wordOf (drop-of-length-le ns h)
+
+-- the word of the nibbles from k - 1 on is that from k on and one nibble below it
+pub word-more : (ns : List ℕ) (k : ℕ) → 0 < k → k ≤ length ns → wordOf (drop k ns) * 16 + getD ns (k - 1) 0 % 16 ≡ wordOf (drop (k - 1) ns)
+unfolding wordOf
+word-more ns zero p h = absurd (not-suc-le-zero p)
+word-more ns (suc k) p h = rw (sub-one (suc k), drop-cons ns k 0 h) (omega arith)
+
+-- the word of the nibbles from k on, of which there are at most n
+pub word-drop-small : (ns : List ℕ) (k n : ℕ) → length ns ≤ k + n → wordOf (drop k ns) < 16 ^ n
+word-drop-small ns k n h =
+    lt-of-lt-of-le (word-small (drop k ns)) (pow-le-pow-right (lit< tt) (simp length-drop (omega arith)))
+
+-- the word of n nibbles of a word, from nibble i on
+word-from : (w i n : ℕ) → wordOf (tabulate (nibbleOf w) i n) ≡ w / 16 ^ i % 16 ^ n
+unfolding nibbleOf wordOf
+word-from w i zero = sym (mod-one (w / 16 ^ i))
+word-from w i (suc n) =
+    let rest : wordOf (tabulate (nibbleOf w) (suc i) n) ≡ w / 16 ^ i / 16 % 16 ^ n =
+    word-from w (suc i) n ∙ ap (λ (x : ℕ). x % 16 ^ n) (ap (λ (x : ℕ). w / x) (pow-suc 16 i) ∙ sym (div-div-eq-div-mul w (16 ^ i) 16)) in
+    let whole : w / 16 ^ i % 16 ^ suc n ≡ (w / 16 ^ i / 16 % 16 ^ n) * 16 + w / 16 ^ i % 16 =
+    ap (λ (x : ℕ). w / 16 ^ i % x) (pow-suc 16 n) ∙ mod-mul (w / 16 ^ i) (sixteens-positive n) (lit< tt) in
+    omega arith
+
+-- the word of a word's nibbles is that word
+pub word-of-nibbles : (w : ℕ) → w < 2 ^ 32 → wordOf (tabulate (nibbleOf w) 0 8) ≡ w
+word-of-nibbles w h = word-from w 0 8 ∙ ap (λ (x : ℕ). x % 16 ^ 8) (div-one w) ∙ mod-eq-of-lt h
+
+-- words with equal nibbles are equal
+pub same-nibbles : (v w : ℕ) → v < 2 ^ 32 → w < 2 ^ 32 → ((k : ℕ) → k < 8 → nibbleOf v k ≡ nibbleOf w k) → v ≡ w
+same-nibbles v w hv hw e = sym (word-of-nibbles v hv) ∙ ap wordOf same ∙ word-of-nibbles w hw
+  where
+    same : tabulate (nibbleOf v) 0 8 ≡ tabulate (nibbleOf w) 0 8
+    same = ext-getD 0 _ _ refl (λ k h. at (nibbleOf v) 0 8 k h ∙ e k h ∙ sym (at (nibbleOf w) 0 8 k h))

@@ -1,0 +1,140 @@
+-- The laws of codes and readings (document 01, "Nibbles, bytes and Gray words").
+--   code-small          a code is a byte
+--   code-clean          the code of d reads clean d
+--   code-injective      two nibbles with one code are one
+--   code-apart          any two codes differ in at least four bits
+--   code-complement     the codes of d and 15 - d are complements
+--   tally               how many readings of a list are clean, mended and lost
+--   tally-of-bytes      of the 256 bytes 16 are clean, 128 mended and 112 lost
+--   no-twofold          no byte is one bit from two codes
+--   entry-reading       the entry of a byte stands for its reading
+--   entry-twofold       the entry of a byte is 145 just where it is one bit from two codes
+--   nibble-read-small   the nibble that a reading gives is below 16
+--   nibble-round        the code of a word's nibble reads as that nibble
+--   nibble-kept         and is not lost
+use mathlib.Core.Path.{_≡_, refl, sym, ap, _∙_}
+use mathlib.Core.Logic.{_≢_}
+use mathlib.Core.Bool.{Bool, true, false}
+use mathlib.Core.List.{List, [], _∷_}
+use Prim.Native.Nat.{ℕ, _+_, _-_, _%_, _≤_, _<_}
+use native.Mathlib.Nat.{mod-lt}
+use native.Mathlib.Omega.{arith}
+use borrow.Author.Tests.{ltb-true, leb-true, ne-eqb}
+use lib.Count.{ones, trailingZeros}
+use lib.Dec.{ltb, leb, eqb, lit<, lit≤}
+use lib.ListN.{length, getD}
+use Rattle.code.specs.declared.reading.Reading.{Reading}
+use Rattle.code.specs.declared.reading.Reading.the-variants.{Clean, Mended, Lost}
+use Rattle.code.specs.Codes.{codes, codeOf, distance}
+use Rattle.code.specs.Readings.{keep, nearFrom, near, nearest, readingOf, twofold, isLost, nibbleRead}
+use Rattle.code.specs.Entries.{entryOf, readingAt}
+use Rattle.code.specs.Nibbles.{nibbleOf}
+use Rattle.code.proofs.NibbleLaws.{nibble-small}
+use Rattle.code.proofs.Tabulate.{tabulate, agree}
+
+-- ---- the codes
+
+-- a code is a byte
+pub code-small : (d : ℕ) → codeOf d < 256
+unfolding codes codeOf
+code-small d =
+    ltb-true _ _ (agree (λ n. ltb (getD codes n 0) 256) (λ n. true) 16 refl (d % 16) (mod-lt d (lit< tt)))
+
+-- the code of d reads clean d
+pub code-clean : (d : ℕ) → d < 16 → readingOf (codeOf d) ≡ Clean d
+unfolding codes codeOf distance nearFrom near readingOf ones
+code-clean = agree (λ d. readingOf (codeOf d)) Clean 16 refl
+
+-- two nibbles with one code are one
+pub code-injective : (d e : ℕ) → d < 16 → e < 16 → codeOf d ≡ codeOf e → d ≡ e
+code-injective d e hd he same =
+    let one : Clean d ≡ Clean e = sym (code-clean d hd) ∙ ap readingOf same ∙ code-clean e he in cc
+
+-- d and e are the same, or their codes differ in at least four bits
+apart : ℕ → ℕ → Bool
+apart d e = either (eqb d e) (leb 4 (distance (codeOf d) (codeOf e)))
+  where
+    either : Bool → Bool → Bool
+    either true b = true
+    either false b = b
+
+-- any two codes differ in at least four bits
+pub code-apart : (d e : ℕ) → d < 16 → e < 16 → d ≢ e → 4 ≤ distance (codeOf d) (codeOf e)
+unfolding codes codeOf distance ones apart
+code-apart d e hd he differ =
+    let row : tabulate (apart d) 0 16 ≡ tabulate (λ e. true) 0 16 =
+    agree (λ d. tabulate (apart d) 0 16) (λ d. tabulate (λ e. true) 0 16) 16 refl d hd in
+    let far : apart d e ≡ true = agree (apart d) (λ e. true) 16 row e he in
+    leb-true _ _ (rw (ne-eqb d e differ) at far)
+
+-- the codes of d and 15 - d are complements
+pub code-complement : (d : ℕ) → d < 16 → codeOf d + codeOf (15 - d) ≡ 255
+unfolding codes codeOf
+code-complement = agree (λ d. codeOf d + codeOf (15 - d)) (λ d. 255) 16 refl
+
+-- ---- the readings
+
+-- how many readings of a list are clean, mended and lost
+abbrev pub tally : List Reading → ℕ × ℕ × ℕ
+tally [] = (0, 0, 0)
+tally (Clean d ∷ rs) = let n = tally rs in (n .0 + 1, n .1, n .2)
+tally (Mended d ∷ rs) = let n = tally rs in (n .0, n .1 + 1, n .2)
+tally (Lost ∷ rs) = let n = tally rs in (n .0, n .1, n .2 + 1)
+
+-- of the 256 bytes 16 are clean, 128 mended and 112 lost
+pub tally-of-bytes : tally (tabulate readingOf 0 256) ≡ (16, 128, 112)
+unfolding codes distance nearFrom near readingOf ones
+tally-of-bytes = refl
+
+-- no byte is one bit from two codes
+pub no-twofold : (b : ℕ) → b < 256 → twofold b ≡ false
+unfolding codes distance nearFrom near twofold ones
+no-twofold = agree twofold (λ b. false) 256 refl
+
+-- the entry of a byte stands for its reading
+pub entry-reading : (b : ℕ) → b < 256 → readingAt (entryOf b) ≡ readingOf b
+unfolding codes codeOf distance nearFrom near readingOf entryOf ones trailingZeros
+entry-reading = agree (λ b. readingAt (entryOf b)) readingOf 256 refl
+
+-- the entry of a byte is 145 just where it is one bit from two codes
+pub entry-twofold : (b : ℕ) → b < 256 → eqb (entryOf b) 145 ≡ twofold b
+unfolding codes codeOf distance nearFrom near twofold entryOf ones trailingZeros
+entry-twofold = agree (λ b. eqb (entryOf b) 145) twofold 256 refl
+
+-- a list's first number, if it has one, is below n
+abbrev FirstBelow : ℕ → List ℕ → Type 0
+FirstBelow n [] = Unit {0}
+FirstBelow n (d ∷ ds) = d < n
+
+keep-below : (n : ℕ) (test : Bool) (d : ℕ) (ds : List ℕ) → d < n → FirstBelow n ds → FirstBelow n (keep test d ds)
+keep-below n true d ds h rest = h
+keep-below n false d ds h rest = rest
+
+near-below : (n k b d : ℕ) (xs : List ℕ) → d + length xs ≤ n → FirstBelow n (nearFrom k b d xs)
+unfolding nearFrom
+near-below n k b d [] h = tt
+near-below n k b d (x ∷ xs) h =
+    keep-below n (eqb (distance b x) k) d (nearFrom k b (d + 1) xs) (omega arith)
+    (near-below n k b (d + 1) xs (omega arith))
+
+nearest-below : (n : ℕ) (ds es : List ℕ) → 0 < n → FirstBelow n ds → FirstBelow n es → nibbleRead (nearest ds es) < n
+unfolding nibbleRead
+nearest-below n (d ∷ ds) es p hd he = hd
+nearest-below n [] (e ∷ es) p hd he = he
+nearest-below n [] [] p hd he = p
+
+-- the nibble that a reading gives is below 16
+pub nibble-read-small : (b : ℕ) → nibbleRead (readingOf b) < 16
+unfolding codes near readingOf
+nibble-read-small b =
+    nearest-below 16 (near 0 b) (near 1 b) (lit< tt) (near-below 16 0 b 0 codes (lit≤ tt)) (near-below 16 1 b 0 codes (lit≤ tt))
+
+-- the code of a word's nibble reads as that nibble
+pub nibble-round : (w k : ℕ) → nibbleRead (readingOf (codeOf (nibbleOf w k))) ≡ nibbleOf w k
+unfolding nibbleRead
+nibble-round w k = ap nibbleRead (code-clean (nibbleOf w k) (nibble-small w k))
+
+-- and is not lost
+pub nibble-kept : (w k : ℕ) → isLost (readingOf (codeOf (nibbleOf w k))) ≡ false
+unfolding isLost
+nibble-kept w k = ap isLost (code-clean (nibbleOf w k) (nibble-small w k))

@@ -1,0 +1,5 @@
+pub mod Codes
+pub mod Readings
+pub mod Entries
+pub mod Gray
+pub mod Nibbles

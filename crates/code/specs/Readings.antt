@@ -1,0 +1,53 @@
+-- What a byte reads as: the nearest-code rule (document 01, "Nibbles, bytes and Gray words").
+use Prim.Native.Nat.{ℕ, _+_}
+use mathlib.Core.Bool.{Bool, true, false}
+use mathlib.Core.List.{List, [], _∷_}
+use lib.Dec.{eqb}
+use Rattle.code.specs.declared.reading.Reading.{Reading}
+use Rattle.code.specs.declared.reading.Reading.the-variants.{Clean, Mended, Lost}
+use Rattle.code.specs.Codes.{codes, distance}
+
+-- d in front of ds, where the test says so
+abbrev pub keep : Bool → ℕ → List ℕ → List ℕ
+keep true d ds = d ∷ ds
+keep false d ds = ds
+
+-- the nibbles, from d on, whose codes, listed from d on, differ from the byte b in just k bits
+unfoldable pub nearFrom : ℕ → ℕ → ℕ → List ℕ → List ℕ
+nearFrom k b d [] = []
+nearFrom k b d (x ∷ xs) = keep (eqb (distance b x) k) d (nearFrom k b (d + 1) xs)
+
+-- the nibbles whose codes differ from the byte b in just k bits
+unfoldable pub near : ℕ → ℕ → List ℕ
+near k b = nearFrom k b 0 codes
+
+-- a byte's reading, given the nibbles whose code it is and those whose code is one bit away
+abbrev pub nearest : List ℕ → List ℕ → Reading
+nearest (d ∷ ds) ones = Clean d
+nearest [] (d ∷ ds) = Mended d
+nearest [] [] = Lost
+
+-- clean(d) when b is the code of d, mended(d) when it differs from the code of d in one bit, else lost
+unfoldable pub readingOf : ℕ → Reading
+readingOf b = nearest (near 0 b) (near 1 b)
+
+abbrev pub several : List ℕ → Bool
+several [] = false
+several (d ∷ []) = false
+several (d ∷ e ∷ ds) = true
+
+-- a byte one bit from two codes (refusal 10)
+unfoldable pub twofold : ℕ → Bool
+twofold b = several (near 1 b)
+
+-- whether a reading tells nothing
+unfoldable pub isLost : Reading → Bool
+isLost (Clean d) = false
+isLost (Mended d) = false
+isLost Lost = true
+
+-- the nibble that a reading gives; 0 where it is lost
+unfoldable pub nibbleRead : Reading → ℕ
+nibbleRead (Clean d) = d
+nibbleRead (Mended d) = d
+nibbleRead Lost = 0

@@ -1,0 +1,7 @@
+// What stands in a cell and what it means: the sixteen codes, the readings of a byte, Gray words and
+// their nibbles. Nothing here knows of images, maps or wear.
+pub mod codes;
+pub mod gray;
+pub mod nibbles;
+pub mod reading;
+mod table;

@@ -1,0 +1,86 @@
+-- Good lengths and place settings, as facts of arithmetic.
+--   Placed                    what good place settings say
+--   good-placed, placed-good  the test turned into it and back
+--   not-placed                the test that fails
+--   map-outside               no map cell is a cell of the area
+use Prim.Native.Nat.{ℕ, _+_, _-_, _*_, _≤_, _<_}
+use mathlib.Core.Path.{_≡_, refl}
+use mathlib.Core.Bool.{Bool, true, false}
+use mathlib.Core.Logic.{_⊎_, inl, inr}
+use native.Mathlib.Omega.{arith}
+use lib.Dec.{leb, ltb}
+use borrow.Author.Tests.{leb-true, ltb-true, le-leb, lt-ltb}
+use Rattle.counter.specs.declared.places.Places.{Places}
+use Rattle.counter.specs.Slots.{slots, _and_, _or_}
+use Rattle.counter.specs.Places.{mapCells, placesGood}
+use Rattle.counter.proofs.RangeTests.{and-true, true-and, or-true}
+
+pub record Placed (copies n : ℕ) (p : Places) : Type 0 where
+  pub mapLow : 1 ≤ p .map
+  pub startLow : 1 ≤ p .start
+  pub mapFits : p .map + mapCells copies ≤ n
+  pub endFits : p .end < n
+  pub startReaches : p .start ≤ 256 - 5 * copies
+  pub large : p .start + slots copies ≤ p .end + 1
+  pub apart : (p .map + mapCells copies ≤ p .start) ⊎ (p .end < p .map)
+
+pub good-placed : (copies n : ℕ) (p : Places) → placesGood copies n p ≡ true → Placed copies n p
+unfolding placesGood
+good-placed copies n p h =
+    let h₁ = and-true (leb 1 (p .map)) _ h in
+    let h₂ = and-true (leb 1 (p .start)) _ (h₁ .1) in
+    let h₃ = and-true (leb (p .map + mapCells copies) n) _ (h₂ .1) in
+    let h₄ = and-true (ltb (p .end) n) _ (h₃ .1) in
+    let h₅ = and-true (leb (p .start) (256 - 5 * copies)) _ (h₄ .1) in
+    let h₆ = and-true (leb (p .start + slots copies) (p .end + 1)) _ (h₅ .1) in
+    record {
+      mapLow = leb-true _ _ (h₁ .0);
+      startLow = leb-true _ _ (h₂ .0);
+      mapFits = leb-true _ _ (h₃ .0);
+      endFits = ltb-true _ _ (h₄ .0);
+      startReaches = leb-true _ _ (h₅ .0);
+      large = leb-true _ _ (h₆ .0);
+      apart = side (or-true _ _ (h₆ .1));
+    }
+  where
+    side : (leb (p .map + mapCells copies) (p .start) ≡ true) ⊎ (ltb (p .end) (p .map) ≡ true) → (p .map + mapCells copies ≤ p .start) ⊎ (p .end < p .map)
+    side (inl x) = inl (leb-true _ _ x)
+    side (inr x) = inr (ltb-true _ _ x)
+
+either-true : (a b : Bool) → (a ≡ true) ⊎ (b ≡ true) → a or b ≡ true
+either-true true b h = refl
+either-true false b (inl h) = cc
+either-true false b (inr h) = h
+
+pub placed-good : (copies n : ℕ) (p : Places) → Placed copies n p → placesGood copies n p ≡ true
+unfolding placesGood
+placed-good copies n p h =
+    rw (
+      le-leb _ _ (h .mapLow),
+      le-leb _ _ (h .startLow),
+      le-leb _ _ (h .mapFits),
+      lt-ltb _ _ (h .endFits),
+      le-leb _ _ (h .startReaches),
+      le-leb _ _ (h .large),
+    )
+    (either-true _ _ (side (h .apart)))
+  where
+    side : (p .map + mapCells copies ≤ p .start) ⊎ (p .end < p .map) → (leb (p .map + mapCells copies) (p .start) ≡ true) ⊎ (ltb (p .end) (p .map) ≡ true)
+    side (inl x) = inl (le-leb _ _ x)
+    side (inr x) = inr (lt-ltb _ _ x)
+
+-- a test that cannot hold fails
+pub never : (b : Bool) → (b ≡ true → ⊥) → b ≡ false
+never true h = absurd (h refl)
+never false h = refl
+
+pub not-placed : (copies n : ℕ) (p : Places) → (Placed copies n p → ⊥) → placesGood copies n p ≡ false
+not-placed copies n p h = never (placesGood copies n p) (λ g. h (good-placed copies n p g))
+
+-- no map cell is a cell of the area
+pub map-outside : {copies n : ℕ} {p : Places} → Placed copies n p → (j a : ℕ) → j < mapCells copies → p .start ≤ a → a ≤ p .end → p .map + j ≡ a → ⊥
+map-outside {copies} {n} {p} good j a h low high e = go (good .apart)
+  where
+    go : (p .map + mapCells copies ≤ p .start) ⊎ (p .end < p .map) → ⊥
+    go (inl below) = omega arith
+    go (inr above) = omega arith

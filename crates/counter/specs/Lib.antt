@@ -1,0 +1,9 @@
+pub mod Slots
+pub mod Places
+pub mod Map
+pub mod Spares
+pub mod Verdict
+pub mod Reading
+pub mod Store
+pub mod Opening
+pub mod Doors

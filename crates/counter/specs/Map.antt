@@ -1,0 +1,79 @@
+-- The map: its mark, its pointers, and when it is sound (document 01, "The map"). A map is the list of its
+-- cells; `byteAt` is the one place that knows how a byte is kept in it.
+use Prim.Native.Nat.{ℕ, _+_, _*_, _/_, _%_}
+use mathlib.Core.Bool.{Bool, true, not}
+use mathlib.Core.List.{List, [], _∷_}
+use lib.ListN.{getD, take, drop}
+use lib.Dec.{leb, ltb, eqb}
+use Rattle.cells.specs.Chip.{pick}
+use Rattle.counter.specs.declared.map.Kind.{Kind}
+use Rattle.counter.specs.declared.map.Kind.the-variants.{High, Low}
+use Rattle.counter.specs.declared.places.Places.{Places}
+use Rattle.counter.specs.Slots.{slots, kindOf, every, _and_, _or_}
+use Rattle.counter.specs.Places.{mapCells}
+
+-- the part of an image's cells that is the map
+abbrev pub mapIn : ℕ → Places → List ℕ → List ℕ
+mapIn copies p cells = take (mapCells copies) (drop (p .map) cells)
+
+-- byte j of a map
+abbrev pub byteAt : List ℕ → ℕ → ℕ
+byteAt map j = getD map j 0
+
+-- the mark's two bytes
+abbrev pub markBytes : List ℕ
+markBytes = 0xA5 ∷ 0x5A ∷ []
+
+unfoldable pub marked : List ℕ → Bool
+marked map = eqb (byteAt map 0) 0xA5 and eqb (byteAt map 1) 0x5A
+
+-- where the part of a copy, counted from 0, starts in the map
+abbrev pub partAt : ℕ → ℕ
+partAt copy = 2 + 11 * copy
+
+-- where in its copy's part a nibble's pointer starts: two bytes for each Low nibble, one for each High one
+unfoldable pub offsetIn : ℕ → ℕ
+offsetIn n = pick (ltb n 3) (2 * n) (n + 3)
+
+-- where a slot's pointer starts in the map
+unfoldable pub offsetOf : ℕ → ℕ
+offsetOf k = partAt (k / 8) + offsetIn (k % 8)
+
+-- the pointer of a kind that starts at a byte of the map: two bytes, low byte first, or one
+unfoldable pub pointerAt : Kind → List ℕ → ℕ → ℕ
+pointerAt Low map j = byteAt map j + 256 * byteAt map (j + 1)
+pointerAt High map j = byteAt map j
+
+-- a slot's pointer
+unfoldable pub pointerOf : List ℕ → ℕ → ℕ
+pointerOf map k = pointerAt (kindOf k) map (offsetOf k)
+
+-- the bytes that hold an address as a pointer of a kind
+unfoldable pub pointerBytes : Kind → ℕ → List ℕ
+pointerBytes Low a = a % 256 ∷ a / 256 ∷ []
+pointerBytes High a = a ∷ []
+
+-- an address is in the area
+abbrev pub inArea : Places → ℕ → Bool
+inArea p a = leb (p .start) a and leb a (p .end)
+
+-- a High pointer is at most 255
+unfoldable pub reachable : Kind → ℕ → Bool
+reachable High a = leb a 255
+reachable Low a = true
+
+-- a High pointer is below a Low one
+unfoldable pub inOrder : Kind → Kind → ℕ → ℕ → Bool
+inOrder High Low high low = ltb high low
+inOrder High High a b = true
+inOrder Low Low a b = true
+inOrder Low High a b = true
+
+-- the pointers of a map are sound: all in the area, High ones at most 255, all different, and every High one
+-- below every Low one
+unfoldable pub sound : ℕ → Places → (ℕ → ℕ) → Bool
+sound copies p pointer =
+    every (slots copies) (λ k. inArea p (pointer k))
+    and every (slots copies) (λ k. reachable (kindOf k) (pointer k))
+    and every (slots copies) (λ j. every j (λ i. not (eqb (pointer i) (pointer j))))
+    and every (slots copies) (λ i. every (slots copies) (λ j. inOrder (kindOf i) (kindOf j) (pointer i) (pointer j)))

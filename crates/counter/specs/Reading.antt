@@ -1,0 +1,96 @@
+-- Reading (document 01, "Reading" and the table of refusals).
+use Prim.Native.Nat.{ℕ, zero, suc, _+_, _-_, _*_}
+use mathlib.Core.Bool.{Bool, true, false}
+use mathlib.Core.List.{List}
+use lib.IntN.{ℤ, pos, negsuc, _-ℤ_}
+use lib.ListN.{length, getD}
+use lib.Dec.{leb}
+use Rattle.code.specs.declared.reading.Reading.{Reading}
+use Rattle.code.specs.Readings.{readingOf, twofold, isLost, nibbleRead}
+use Rattle.code.specs.Gray.{countOf}
+use Rattle.code.specs.Nibbles.{wordOf}
+use Rattle.cells.specs.Chip.{pick}
+use Rattle.cells.specs.declared.row.Found.{Found}
+use Rattle.cells.specs.declared.row.Found.the-variants.{At, Nowhere}
+use Rattle.counter.specs.declared.places.Places.{Places}
+use Rattle.counter.specs.declared.verdict.Verdict.{Verdict}
+use Rattle.counter.specs.declared.verdict.Verdict.the-variants.{Good, Refused}
+use Rattle.counter.specs.declared.verdict.Refusal.{Refusal}
+use Rattle.counter.specs.declared.verdict.Refusal.the-variants.{BadLength, BadPlaces, NoMark, UnsoundMap, TwoCodes, LostNibble, Apart}
+use Rattle.counter.specs.Slots.{slots, every, some, lowest, tabulate}
+use Rattle.counter.specs.Places.{lengthGood, placesGood}
+use Rattle.counter.specs.Map.{mapIn, marked, pointerOf, sound}
+
+-- the byte at a slot's pointer
+abbrev pub dataAt : List ℕ → List ℕ → ℕ → ℕ
+dataAt cells map k = getD cells (pointerOf map k) 0
+
+-- what nibble n of a copy, counted from 0, reads as, given the byte of each slot
+abbrev pub readingAt : (ℕ → ℕ) → ℕ → ℕ → Reading
+readingAt byte copy n = readingOf (byte (8 * copy + n))
+
+-- nibble n of the lowest-numbered copy that has one, among so many copies from one on
+unfoldable pub lent : ℕ → ℕ → (ℕ → ℕ) → ℕ → ℕ
+lent zero copy byte n = 0
+lent (suc left) copy byte n =
+    let other = lent left (copy + 1) byte n in
+    let own = readingAt byte copy n in
+    pick (isLost own) other (nibbleRead own)
+
+-- nibble n of a copy; a lost nibble takes the other copy's
+unfoldable pub nibbleIn : ℕ → (ℕ → ℕ) → ℕ → ℕ → ℕ
+nibbleIn copies byte copy n =
+    let own = readingAt byte copy n in
+    pick (isLost own) (lent copies 0 byte n) (nibbleRead own)
+
+-- the count of a copy: its Gray word turned back
+unfoldable pub countIn : ℕ → (ℕ → ℕ) → ℕ → ℕ
+countIn copies byte copy = countOf (wordOf (tabulate 8 0 (nibbleIn copies byte copy)))
+
+-- lag 0 or lag 1
+unfoldable pub close : ℤ → Bool
+close (pos n) = leb n 1
+close (negsuc n) = false
+
+-- what the counts of the first and the last copy decide; lag is the signed number c1 - c2
+unfoldable pub decide : ℕ → ℕ → Verdict
+decide c1 c2 = let lag = pos c1 -ℤ pos c2 in pick (close lag) (Good c1 lag) (Refused (Apart lag))
+
+-- some copy holds a byte one bit from two codes at nibble n
+abbrev pub twofoldAt : ℕ → (ℕ → ℕ) → ℕ → Bool
+twofoldAt copies byte n = some copies (λ copy. twofold (byte (8 * copy + n)))
+
+-- nibble n is lost in every copy
+abbrev pub lostAt : ℕ → (ℕ → ℕ) → ℕ → Bool
+lostAt copies byte n = every copies (λ copy. isLost (readingAt byte copy n))
+
+-- refused, unless the test holds
+abbrev pub unless : Bool → Refusal → Verdict → Verdict
+unless true why rest = rest
+unless false why rest = Refused why
+
+-- refused for what was found, if anything was
+abbrev pub onFound : Found → (ℕ → Refusal) → Verdict → Verdict
+onFound (At n) why rest = Refused (why n)
+onFound Nowhere why rest = rest
+
+-- what the bytes of the slots read as: refusals 10, 5 and 6, or the count
+unfoldable pub weigh : ℕ → (ℕ → ℕ) → Verdict
+weigh copies byte =
+    onFound (lowest 8 0 (twofoldAt copies byte)) TwoCodes
+    (onFound (lowest 8 0 (lostAt copies byte)) LostNibble
+    (decide (countIn copies byte 0) (countIn copies byte (copies - 1))))
+
+-- what a marked image reads as: refusal 4, or what the data read as
+unfoldable pub examine : ℕ → Places → List ℕ → Verdict
+examine copies p cells =
+    let map = mapIn copies p cells in
+    unless (sound copies p (pointerOf map)) UnsoundMap (weigh copies (dataAt cells map))
+
+-- what an image reads as, by the tests in the order of the table
+unfoldable pub verdictOf : ℕ → Places → List ℕ → Verdict
+verdictOf copies p cells =
+    unless (lengthGood copies (length cells)) BadLength
+    (unless (placesGood copies (length cells) p) BadPlaces
+    (unless (marked (mapIn copies p cells)) NoMark
+    (examine copies p cells)))

@@ -1,0 +1,110 @@
+// The map (document 01, "The map"), handed on as the part of the image that starts at its place: its mark
+// and its pointers. Slot k stands for nibble k % 8 of copy k / 8.
+ghost use mathlib.Core.Path.{_≡_};
+ghost use Prim.Native.Nat.{ℕ, _<_};
+ghost use lib.ListN.{length, getD};
+ghost use Rattle.counter.specs.Slots.{kindOf};
+ghost use Rattle.counter.specs.Map.{marked, offsetOf, pointerOf};
+
+// High cells hold nibbles 3 to 7, Low cells nibbles 0 to 2.
+pub enum Kind {
+    High,
+    Low,
+}
+
+// A map, by its place in the image.
+pub struct Map {
+    pub place: usize,
+}
+
+impl Map {
+    // its cells, and the slots that it has pointers for
+    pub const SIZE: usize = 24;
+
+    pub const SLOTS: usize = 16;
+    // the mark's two bytes
+    pub const MARK_FIRST: u8 = 0xA5;
+
+    pub const MARK_SECOND: u8 = 0x5A;
+    // the first offset of a copy, and the cells of a copy
+    pub const FIRST_COPY: usize = 2;
+
+    pub const COPY_SIZE: usize = 11;
+
+    // The map at a place.
+    pub fn at(place: usize) -> Map
+        ensures { λ r. ⌜ r .place ≡ place ⌝ }
+    {
+        Map { place }
+    }
+}
+
+// A byte as a number.
+fn wide(byte: u8) -> usize
+    ensures { λ r. ⌜ (r ≡ byte) × (r < 256) ⌝ }
+{
+    byte as usize
+}
+
+// The kind of a slot's cells.
+pub fn kind_of(slot: usize) -> Kind
+    ensures { λ r. ⌜ r ≡ kindOf slot ⌝ }
+{
+    if slot % 8 < 3 {
+        return Kind::Low;
+    }
+    Kind::High
+}
+
+// Whether both bytes of the mark are there.
+pub fn is_marked(map: &[u8]) -> bool
+    requires { ⌜ length (now map) ≡ 24 ⌝ }
+    ensures { λ r. ⌜ r ≡ marked (now (map .entry)) ⌝ }
+{
+    if map[0] != Map::MARK_FIRST {
+        return false;
+    }
+    if map[1] != Map::MARK_SECOND {
+        return false;
+    }
+    true
+}
+
+// Where a slot's pointer starts in the map.
+pub fn offset_of(slot: usize) -> usize
+    requires { ⌜ slot < 16 ⌝ }
+    ensures { λ r. ⌜ r ≡ offsetOf slot ⌝ }
+{
+    let nibble = slot % 8;
+    let copy = Map::FIRST_COPY + Map::COPY_SIZE * (slot / 8);
+    if nibble < 3 {
+        return copy + 2 * nibble;
+    }
+    copy + (nibble + 3)
+}
+
+// A slot's pointer: two bytes, low byte first, for a Low one, and one for a High one.
+pub fn pointer_of(map: &[u8], slot: usize) -> usize
+    requires { ⌜ (length (now map) ≡ 24) × (slot < 16) ⌝ }
+    ensures { λ r. ⌜ (r ≡ pointerOf (now (map .entry)) slot) × (r < 65536) ⌝ }
+{
+    let at = offset_of(slot);
+    if slot % 8 < 3 {
+        return wide(map[at]) + 256 * wide(map[at + 1]);
+    }
+    wide(map[at])
+}
+
+// The pointers of all slots.
+pub fn pointers_of(map: &[u8]) -> [usize; 16]
+    requires { ⌜ length (now map) ≡ 24 ⌝ }
+    ensures { λ r. ⌜ ((k : ℕ) → k < 16 → (getD r k 0 ≡ pointerOf (now (map .entry)) k) × (getD r k 0 < 65536)) ⌝ }
+{
+    let mut pointers = [0usize; 16];
+    let mut slot = 0;
+    while slot < Map::SLOTS {
+        pointers[slot] = pointer_of(map, slot);
+        slot += 1;
+    }
+    pointers
+}
