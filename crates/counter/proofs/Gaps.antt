@@ -3,6 +3,7 @@
 --   between-none              before any cell is taken
 --   between-more              one more address taken
 --   between-gap               a map's own gap is such a gap
+--   gap-more                  the gap of one slot more
 --   between-ordered           sound pointers leave high at or below low, and both in the area
 --   Free                      an address of a kind may be taken from a gap
 --   Spare                     the same in the document's words, over the pointers
@@ -13,6 +14,7 @@ use Prim.Native.Nat.{ℕ, zero, suc, _+_, _-_, _*_, _≤_, _<_, min, max}
 use mathlib.Core.Path.{_≡_, refl, sym, ap, _∙_}
 use mathlib.Core.Bool.{Bool, true, false}
 use native.Mathlib.Decide.{decLt, ℕ-discrete}
+use native.Mathlib.Numerals.{add-one}
 use native.Mathlib.Omega.{arith}
 use Rattle.cells.specs.declared.row.Way.{Way}
 use Rattle.cells.specs.declared.row.Way.the-variants.{Up, Down}
@@ -23,7 +25,7 @@ use Rattle.counter.specs.declared.places.Places.{Places}
 use Rattle.counter.specs.declared.spares.Gap.{Gap}
 use Rattle.counter.specs.Slots.{slots, kindOf}
 use Rattle.counter.specs.Spares.{gap, wholeArea, narrow, gapTo, gapOf, wayOf, nextOf, sparesOf}
-use Rattle.counter.proofs.Soundness.{Inside, Sound}
+use Rattle.counter.proofs.SoundPointers.{Inside, Sound}
 
 -- above every High pointer and the least such from S on; at or below every Low pointer and the greatest such up to E + 1
 pub record Between (n : ℕ) (p : Places) (pointer : ℕ → ℕ) (g : Gap) : Type 0 where
@@ -96,6 +98,10 @@ pub between-gap : (n : ℕ) (p : Places) (pointer : ℕ → ℕ) → Between n p
 unfolding gapTo
 between-gap zero p pointer = between-none p pointer
 between-gap (suc n) p pointer = between-more (between-gap n p pointer) (pointer n) refl
+
+pub gap-more : (k : ℕ) (p : Places) (pointer : ℕ → ℕ) → narrow (kindOf k) (pointer k) (gapTo k p pointer) ≡ gapTo (k + 1) p pointer
+unfolding gapTo
+gap-more k p pointer = rw (add-one k)
 
 -- sound pointers leave a gap that is none or more cells of the area
 pub between-ordered : {n : ℕ} {p : Places} {pointer : ℕ → ℕ} {g : Gap} → p .start ≤ p .end + 1 → Sound n p pointer → Between n p pointer g → g .high ≤ g .low

@@ -2,6 +2,8 @@ pub mod RangeTests
 pub mod Settings
 pub mod Offsets
 pub mod Filled
-pub mod Soundness
+pub mod SoundPointers
 pub mod Gaps
 pub mod MapBytes
+pub mod Tries
+pub mod SoundByTries

@@ -1,7 +1,9 @@
 -- Tests over a range of numbers, turned into facts and back.
+--   never                     a test that cannot hold fails
 --   and-true, true-and        both tests hold
 --   or-true                   one of the tests holds
 --   every-all, all-every      the test holds of each number below n
+--   every-more                one number more
 --   every-not                 a number of which it does not hold
 --   none-some                 the test holds of no number below n
 --   none-lowest               the test holds of none of the n numbers from k on
@@ -12,10 +14,15 @@ use mathlib.Core.Bool.{Bool, true, false}
 use mathlib.Core.List.{List, [], _∷_}
 use mathlib.Core.Logic.{_⊎_, inl, inr}
 use native.Mathlib.Decide.{ℕ-discrete}
+use native.Mathlib.Numerals.{add-one}
 use native.Mathlib.Omega.{arith}
 use Rattle.cells.specs.declared.row.Found.{Found}
 use Rattle.cells.specs.declared.row.Found.the-variants.{At, Nowhere}
 use Rattle.counter.specs.Slots.{_and_, _or_, every, some, lowest, tabulate}
+
+pub never : (b : Bool) → (b ≡ true → ⊥) → b ≡ false
+never true h = absurd (h refl)
+never false h = refl
 
 pub and-true : (a b : Bool) → a and b ≡ true → (a ≡ true) × (b ≡ true)
 and-true true b h = (refl, h)
@@ -44,6 +51,10 @@ pub all-every : (n : ℕ) (test : ℕ → Bool) → ((k : ℕ) → k < n → tes
 unfolding every
 all-every zero test h = refl
 all-every (suc n) test h = true-and (every n test) (test n) (all-every n test (λ k l. h k (omega arith))) (h n (omega arith))
+
+pub every-more : (n : ℕ) (test : ℕ → Bool) → every n test ≡ true → test n ≡ true → every (n + 1) test ≡ true
+unfolding every
+every-more n test below here = rw (add-one n) (true-and (every n test) (test n) below here)
 
 pub every-not : (n : ℕ) (test : ℕ → Bool) (k : ℕ) → k < n → test k ≡ false → every n test ≡ false
 every-not n test k l f = go (every n test) refl

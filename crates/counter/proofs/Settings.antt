@@ -13,7 +13,7 @@ use borrow.Author.Tests.{leb-true, ltb-true, le-leb, lt-ltb}
 use Rattle.counter.specs.declared.places.Places.{Places}
 use Rattle.counter.specs.Slots.{slots, _and_, _or_}
 use Rattle.counter.specs.Places.{mapCells, placesGood}
-use Rattle.counter.proofs.RangeTests.{and-true, true-and, or-true}
+use Rattle.counter.proofs.RangeTests.{and-true, or-true, never}
 
 pub record Placed (copies n : ℕ) (p : Places) : Type 0 where
   pub mapLow : 1 ≤ p .map
@@ -68,11 +68,6 @@ placed-good copies n p h =
     side : (p .map + mapCells copies ≤ p .start) ⊎ (p .end < p .map) → (leb (p .map + mapCells copies) (p .start) ≡ true) ⊎ (ltb (p .end) (p .map) ≡ true)
     side (inl x) = inl (le-leb _ _ x)
     side (inr x) = inr (lt-ltb _ _ x)
-
--- a test that cannot hold fails
-pub never : (b : Bool) → (b ≡ true → ⊥) → b ≡ false
-never true h = absurd (h refl)
-never false h = refl
 
 pub not-placed : (copies n : ℕ) (p : Places) → (Placed copies n p → ⊥) → placesGood copies n p ≡ false
 not-placed copies n p h = never (placesGood copies n p) (λ g. h (good-placed copies n p g))

@@ -1,13 +1,16 @@
 -- The cells not yet taken (document 01, "The map"). High cells are taken upward from S and Low cells downward
 -- from E, so two numbers say it all: the next High address, and the lowest Low pointer.
 use Prim.Native.Nat.{ℕ, zero, suc, _+_, _-_, min, max}
+use mathlib.Core.Bool.{Bool}
+use lib.Dec.{leb, ltb}
 use Rattle.cells.specs.declared.row.Way.{Way}
 use Rattle.cells.specs.declared.row.Way.the-variants.{Up, Down}
 use Rattle.counter.specs.declared.map.Kind.{Kind}
 use Rattle.counter.specs.declared.map.Kind.the-variants.{High, Low}
 use Rattle.counter.specs.declared.places.Places.{Places}
 use Rattle.counter.specs.declared.spares.Gap.{Gap}
-use Rattle.counter.specs.Slots.{slots, kindOf}
+use Rattle.counter.specs.Slots.{slots, kindOf, _and_}
+use Rattle.counter.specs.Map.{inArea}
 
 abbrev pub gap : ℕ → ℕ → Gap
 gap high low = record { high = high; low = low }
@@ -31,6 +34,12 @@ gapTo (suc k) p pointer = narrow (kindOf k) (pointer k) (gapTo k p pointer)
 unfoldable pub gapOf : ℕ → Places → (ℕ → ℕ) → Gap
 gapOf copies p pointer = gapTo (slots copies) p pointer
 
+-- a spare may be tried: it is in the area, a High one is at most 255 and below every Low pointer, a Low one is
+-- above every High pointer
+unfoldable pub mayTry : Places → Kind → Gap → ℕ → Bool
+mayTry p High g a = inArea p a and leb a 255 and ltb a (g .low)
+mayTry p Low g a = inArea p a and leb (g .high) a
+
 -- High spares are tried upward, Low ones downward
 unfoldable pub wayOf : Kind → Way
 wayOf High = Up
@@ -41,8 +50,7 @@ unfoldable pub nextOf : Kind → Gap → ℕ
 nextOf High g = g .high
 nextOf Low g = g .low - 1
 
--- how many cells from the next address on may be tried: a High spare is at most 255 and below every Low
--- pointer, a Low spare above every High one
+-- how many cells from the next address on may be tried
 unfoldable pub sparesOf : Kind → Gap → ℕ
 sparesOf High g = min 256 (g .low) - g .high
 sparesOf Low g = g .low - g .high

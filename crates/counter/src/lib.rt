@@ -3,5 +3,6 @@
 // the four doors.
 pub mod map;
 pub mod places;
+pub mod soundness;
 pub mod spares;
 pub mod verdict;

@@ -1,7 +1,82 @@
 // The cells not yet taken (document 01, "The map").
+ghost use mathlib.Core.Path.{_≡_};
+ghost use Prim.Native.Nat.{ℕ, _+_, _<_, _^_};
+ghost use lib.ListN.{getD};
+ghost use Rattle.counter.specs.Slots.{two, kindOf};
+ghost use Rattle.counter.specs.Map.{listed};
+ghost use Rattle.counter.specs.Spares.{wholeArea, narrow, gapOf, mayTry};
+use super::map::Map;
+use super::places::Places;
 
 // The next High address, and the lowest Low pointer: the cell past the area's end before any is taken.
 pub struct Gap {
     pub high: usize,
     pub low: usize,
+}
+
+// The gap before any cell is taken.
+pub fn whole_area(p: Places) -> Gap
+    requires { ⌜ p .end < 4096 ⌝ }
+    ensures { λ r. ⌜ r ≡ wholeArea p ⌝ }
+{
+    Gap {
+        high: p.start,
+        low: p.end + 1,
+    }
+}
+
+// The gap with an address taken for a slot.
+pub fn narrowed(slot: usize, a: usize, g: Gap) -> Gap
+    requires { ⌜ a < 65536 ⌝ }
+    ensures { λ r. ⌜ r ≡ narrow (kindOf slot) a g ⌝ }
+{
+    if slot % 8 < 3 {
+        if a < g.low {
+            return Gap {
+                high: g.high,
+                low: a,
+            };
+        }
+        return g;
+    }
+    if g.high <= a {
+        return Gap {
+            high: a + 1,
+            low: g.low,
+        };
+    }
+    g
+}
+
+// Whether an address may be tried as a spare for a slot.
+pub fn may_try(p: Places, slot: usize, g: Gap, a: usize) -> bool
+    ensures { λ r. ⌜ r ≡ mayTry p (kindOf slot) g a ⌝ }
+{
+    if a < p.start {
+        return false;
+    }
+    if p.end < a {
+        return false;
+    }
+    if slot % 8 < 3 {
+        return g.high <= a;
+    }
+    if 255 < a {
+        return false;
+    }
+    a < g.low
+}
+
+// The gap that the pointers of all slots leave.
+pub fn gap_of(pointers: &[usize; 16], p: Places) -> Gap
+    requires { ⌜ (p .end < 4096) × ((k : ℕ) → k < 16 → getD (now pointers) k 0 < 65536) ⌝ }
+    ensures { λ r. ⌜ r ≡ gapOf two p (listed (now (pointers .entry))) ⌝ }
+{
+    let mut gap = whole_area(p);
+    let mut slot = 0;
+    while slot < Map::SLOTS {
+        gap = narrowed(slot, pointers[slot], gap);
+        slot += 1;
+    }
+    gap
 }

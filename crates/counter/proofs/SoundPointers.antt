@@ -2,6 +2,7 @@
 --   Inside                    an address is in the area
 --   Sound                     the pointers of the slots below n are sound
 --   test-sound, sound-test    the test turned into it and back
+--   below-apart               different from every earlier one is different from every other
 --   sound-none                of no slots
 --   sound-same                of another function with the same values
 --   sound-fewer               of fewer slots
@@ -63,7 +64,7 @@ order-test Low Low a b h = refl
 order-test Low High a b h = refl
 
 -- different from every earlier one is different from every other
-below-apart : {n : ℕ} {pointer : ℕ → ℕ} → ((i j : ℕ) → i < j → j < n → pointer i ≡ pointer j → ⊥) → (i j : ℕ) → i < n → j < n → (i ≡ j → ⊥) → pointer i ≡ pointer j → ⊥
+pub below-apart : {n : ℕ} {pointer : ℕ → ℕ} → ((i j : ℕ) → i < j → j < n → pointer i ≡ pointer j → ⊥) → (i j : ℕ) → i < n → j < n → (i ≡ j → ⊥) → pointer i ≡ pointer j → ⊥
 below-apart {n} {pointer} below i j l m d e = go (decLt i j)
   where
     go : Dec (i < j) → ⊥
