@@ -1,5 +1,5 @@
 -- Laws of logs: what their writes keep, and how the lives fall by them.
-use Prim.Native.Nat.{ℕ, zero, suc, _+_, _-_, _≤_, _<_}
+use Prim.Native.Nat.{ℕ, _+_, _-_, _≤_}
 use mathlib.Core.Path.{_≡_, refl, sym, ap, subst, _∙_}
 use mathlib.Core.Bool.{Bool, true, false}
 use mathlib.Core.List.{List, [], _∷_, _++_}
@@ -23,10 +23,12 @@ writeAll-append [] m s = refl
 writeAll-append (w ∷ l) m s = writeAll-append l m (writeAt (w .at) (w .byte) s)
 
 module _ {Place : ℕ → Type 0} where
+  -- a log behind a log, both in the place
   pub every-append : {l m : List Write} → Every Place l → Every Place m → Every Place (l ++ m)
   every-append none f = f
   every-append (more p e) f = more p (every-append e f)
 
+  -- what is in a place is in a wider one
   pub every-wider : {Wider : ℕ → Type 0} {l : List Write} → ((c : ℕ) → Place c → Wider c) → Every Place l → Every Wider l
   every-wider f none = none
   every-wider f (more {w} p e) = more (f (w .at) p) (every-wider f e)
@@ -42,7 +44,14 @@ module _ {Place : ℕ → Type 0} where
 
 -- ## How many writes were asked of some cells
 
+-- a write counts as one at most
+one-most : (t u : Bool) → pick t (pick u 1 0) 0 ≤ 1
+one-most true true = omega arith
+one-most true false = omega arith
+one-most false u = omega arith
+
 module _ (lo hi : ℕ) where
+  -- of no writes, none
   pub asked-none : askedIn lo hi [] ≡ 0
   unfolding askedIn
   asked-none = refl
@@ -62,6 +71,7 @@ module _ (lo hi : ℕ) where
       go (yes p) (no q) = rw (le-leb lo (w .at) p, lt-leb (w .at) hi (omega arith), zero-add)
       go (no p) q = rw (lt-leb lo (w .at) (omega arith), zero-add)
 
+  -- of a log behind a log, the sum
   pub asked-append : (l m : List Write) → askedIn lo hi (l ++ m) ≡ askedIn lo hi l + askedIn lo hi m
   unfolding askedIn
   asked-append [] m = sym (zero-add _)
@@ -76,6 +86,12 @@ module _ (lo hi : ℕ) where
   pub asked-apart : {l : List Write} → Every (λ c. lo ≤ c → c ≤ hi → ⊥) l → askedIn lo hi l ≡ 0
   asked-apart none = asked-none
   asked-apart (more {w} {ws} p e) = asked-elsewhere w ws p ∙ asked-apart e
+
+  -- never more than there are
+  pub asked-most : (l : List Write) → askedIn lo hi l ≤ length l
+  unfolding askedIn
+  asked-most [] = omega arith
+  asked-most (w ∷ l) = let h = asked-most l in let o = one-most (leb lo (w .at)) (leb (w .at) hi) in omega arith
 
 -- one write, and what a log behind it leaves of a life
 life-step : (w : Write) (l : List Write) (s : Chip) (a : ℕ) → lifeAt (writeAt (w .at) (w .byte) s) a - askedOf a l ≡ lifeAt s a - askedOf a (w ∷ l)
@@ -103,6 +119,7 @@ life-falls (w ∷ l) s a = life-falls l (writeAt (w .at) (w .byte) s) a ∙ life
 -- ## Work within a place
 
 module _ {A : Type 0} {Place : ℕ → Type 0} where
+  -- no work
   pub within-still : (x : A) (s : Chip) → Within Place s (still x s)
   unfolding writeAll
   within-still x s = record { logged = refl; places = none }
@@ -112,23 +129,29 @@ module _ {A : Type 0} {Place : ℕ → Type 0} where
   unfolding writeAll
   within-write x a b s p = record { logged = refl; places = more p none }
 
+  -- work within a place is within a wider one
   pub within-wider : {Wider : ℕ → Type 0} {s : Chip} {r : Run A} → ((c : ℕ) → Place c → Wider c) → Within Place s r → Within Wider s r
   within-wider f i = record { logged = i .logged; places = every-wider f (i .places) }
 
+  -- either of two pieces
   pub within-pick : (t : Bool) {s : Chip} {x y : Run A} → Within Place s x → Within Place s y → Within Place s (pick t x y)
   within-pick true i j = i
   within-pick false i j = j
 
+  -- all else is kept
   pub within-kept : {s : Chip} {r : Run A} → Within Place s r → Kept Place s (r .after)
   within-kept {s} i = rw (i .logged) (writeAll-kept s (i .places))
 
+  -- each life falls by the writes asked of its cell, while it lasts
   pub within-life : {s : Chip} {r : Run A} → Within Place s r → (a : ℕ) → lifeAt (r .after) a ≡ lifeAt s a - askedOf a (r .log)
   within-life {s} {r} i a = rw (i .logged) (life-falls (r .log) s a)
 
 module _ {A B : Type 0} {Place : ℕ → Type 0} {s : Chip} {r : Run A} where
+  -- the same work with another answer
   pub within-giving : (x : B) → Within Place s r → Within Place s (r giving x)
   within-giving x i = record { logged = i .logged; places = i .places }
 
+  -- one piece and then another
   pub within-then : {q : Run B} → Within Place s r → Within Place (r .after) q → Within Place s (r then q)
   within-then {q} i j = record {
     logged = j .logged ∙ ap (writeAll (q .log)) (i .logged) ∙ sym (writeAll-append (r .log) (q .log) s);

@@ -1,6 +1,6 @@
 -- Laws of a put: what it keeps, what it changes, what it costs.
-use Prim.Native.Nat.{ℕ, _-_, _≤_, _<_}
-use mathlib.Core.Path.{_≡_, refl, sym, ap, _∙_}
+use Prim.Native.Nat.{ℕ, _-_, _≤_}
+use mathlib.Core.Path.{_≡_, refl, sym}
 use mathlib.Core.Bool.{Bool, true, false, true≢false}
 use mathlib.Core.List.{[], _∷_}
 use mathlib.Core.Logic.{_⊎_, inl, inr}
@@ -15,6 +15,8 @@ use Rattle.cells.specs.Log.{Within}
 use Rattle.cells.specs.Put.{putAt, readBack}
 use Rattle.cells.proofs.Writes.{write-laws, alive-inside}
 use Rattle.cells.proofs.Logs.{within-still, within-write, within-kept}
+
+-- ## What is claimed
 
 -- a cell that does not take the byte: it is worn, and reads another
 pub record Refuses (a b : ℕ) (s : Chip) : Type 0 where
@@ -36,6 +38,8 @@ pub record PutLaws (a b : ℕ) (s : Chip) : Type 0 where
   pub asked : (putAt a b s .log ≡ []) ⊎ (putAt a b s .log ≡ write a b ∷ [])
   pub cost : length (putAt a b s .log) ≤ 1
   pub tried : putAt a b s .tried ≡ 0
+
+-- ## Its proof
 
 module _ (a b : ℕ) (s : Chip) where
   -- a put of what is there asks nothing and changes nothing
@@ -76,18 +80,6 @@ module _ (a b : ℕ) (s : Chip) where
   pub put-held : putAt a b s .answer ≡ true → cellAt (putAt a b s .after) a ≡ b
   put-held = put-either (λ r. r .answer ≡ true → cellAt (r .after) a ≡ b) (λ e h. e) (λ n h. eqb-true _ b h)
 
-  -- what is said of a put that has written and read back
-  pub put-back : {t : Chip} → t ≡ writeAt a b s → (cellAt s a ≡ b → ⊥) → view (readBack a b t) ≡ view (putAt a b s)
-  put-back e n = rw (e, put-asks n)
-
-  -- the same laws over what is said of a put
-  module _ (v : Seen Bool) (e : v ≡ view (putAt a b s)) where
-    pub said-cost : v .writes ≤ 1
-    said-cost = rw e put-cost
-
-    pub said-answer : (t : Bool) → v .answer ≡ t → putAt a b s .answer ≡ t
-    said-answer t h = sym (ap (λ (w : Seen Bool). w .answer) e) ∙ h
-
   module _ (p : Paired s) where
     -- whatever holds in the three cases holds of a put: the byte is there, or the cell takes it, or refuses it
     pub put-cases :
@@ -107,6 +99,7 @@ module _ (a b : ℕ) (s : Chip) where
             let w : lifeAt s a ≡ 0 = omega arith in
             rw (write-laws a b s .worn w, ne-eqb _ b n) (h (record { worn = w; other = n }))
 
+    -- all that is claimed, where there are as many lives as cells
     pub put-laws : PutLaws a b s
     put-laws = record {
       within = put-within;
@@ -123,3 +116,14 @@ module _ (a b : ℕ) (s : Chip) where
       cost = put-cost;
       tried = put-tried;
     }
+
+-- ## For code that puts: over what is said of it, `v`
+
+module _ (a b : ℕ) (s : Chip) where
+  -- what is said of a put that has written and read back
+  pub put-back : {t : Chip} → t ≡ writeAt a b s → (cellAt s a ≡ b → ⊥) → view (readBack a b t) ≡ view (putAt a b s)
+  put-back e n = rw (e, put-asks a b s n)
+
+  -- a put says of at most one write
+  pub put-few : {v : Seen Bool} → v ≡ view (putAt a b s) → v .writes ≤ 1
+  put-few e = rw e (put-cost a b s)

@@ -1,21 +1,48 @@
 -- Laws of bytes put at neighbouring cells: what it keeps, what it changes, what it costs.
-use Prim.Native.Nat.{ℕ, zero, suc, _+_, _-_, _≤_, _<_}
-use mathlib.Core.Path.{_≡_, refl, sym, ap, _∙_}
+use Prim.Native.Nat.{ℕ, zero, suc, _+_, _≤_, _<_}
+use mathlib.Core.Path.{_≡_, refl, sym, _∙_}
 use mathlib.Core.Bool.{Bool, true, false}
 use mathlib.Core.List.{List, [], _∷_}
 use native.Mathlib.Nat.{zero-add, add-zero, add-assoc}
-use native.Mathlib.Numerals.{add-one}
+use native.Mathlib.Numerals.{add-one, one-add}
 use native.Mathlib.Omega.{arith}
-use lib.ListN.{length, getD, drop}
+use lib.ListN.{length, getD, drop, length-append}
 use lib.Seq.{drop-cons, drop-length}
+use Rattle.cells.specs.declared.row.Way.the-variants.{Up}
 use Rattle.cells.specs.declared.row.Found.{Found}
 use Rattle.cells.specs.declared.row.Found.the-variants.{At, Nowhere}
-use Rattle.cells.specs.Chip.{Chip}
-use Rattle.cells.specs.Run.{Run, Seen, seen, view, plus, _then_, _giving_}
+use Rattle.cells.specs.Chip.{Chip, cellAt, lifeAt, Paired, Kept}
+use Rattle.cells.specs.Run.{Run, Seen, seen, still, view, plus, _then_, _giving_}
+use Rattle.cells.specs.Log.{Within}
 use Rattle.cells.specs.Put.{putAt}
-use Rattle.cells.specs.Row.{putRow}
-use Rattle.cells.proofs.Views.{view-then}
-use Rattle.cells.proofs.Puts.{put-tried, said-answer}
+use Rattle.cells.specs.Row.{next, putRow, InRow}
+use Rattle.cells.proofs.Views.{view-then, said-answer}
+use Rattle.cells.proofs.Writes.{kept-paired}
+use Rattle.cells.proofs.Logs.{within-still, within-wider, within-pick, within-giving, within-then, within-kept}
+use Rattle.cells.proofs.Addresses.{in-first, in-longer}
+use Rattle.cells.proofs.Puts.{Refuses, put-there, put-within, put-cost, put-tried, put-held, put-laws}
+
+-- ## What is claimed
+
+-- a row stops at x: the cell there refuses its byte
+pub record Stopped (bs : List ℕ) (a : ℕ) (s : Chip) (x : ℕ) : Type 0 where
+  pub index : ℕ
+  pub inside : index < length bs
+  pub here : x ≡ a + index
+  pub refused : Refuses x (getD bs index 0) s
+
+-- what a row keeps, what it changes, and what it costs
+pub record RowLaws (bs : List ℕ) (a : ℕ) (s : Chip) : Type 0 where
+  pub within : Within (InRow (length bs) Up a) s (putRow bs a s)
+  pub kept : Kept (InRow (length bs) Up a) s (putRow bs a s .after)
+  pub held : putRow bs a s .answer ≡ Nowhere → (j : ℕ) → j < length bs → cellAt (putRow bs a s .after) (a + j) ≡ getD bs j 0
+  pub failed : (x : ℕ) → putRow bs a s .answer ≡ At x → Stopped bs a s x
+  pub there : ((j : ℕ) → j < length bs → cellAt s (a + j) ≡ getD bs j 0) → putRow bs a s ≡ still Nowhere s
+  pub alive : ((j : ℕ) → j < length bs → 1 ≤ lifeAt s (a + j)) → putRow bs a s .answer ≡ Nowhere
+  pub cost : length (putRow bs a s .log) ≤ length bs
+  pub tried : putRow bs a s .tried ≡ 0
+
+-- ## Its proof
 
 module _ (b : ℕ) (bs : List ℕ) (a : ℕ) (s : Chip) where
   -- a row whose first put holds goes on with the next byte
@@ -28,22 +55,160 @@ module _ (b : ℕ) (bs : List ℕ) (a : ℕ) (s : Chip) where
   unfolding putRow
   row-stop h = rw h
 
+  -- whatever holds in both cases holds of a row
+  row-either :
+      (P : Run Found → Type 0)
+      → (putAt a b s .answer ≡ true → P (putAt a b s then putRow bs (a + 1) (putAt a b s .after)))
+      → (putAt a b s .answer ≡ false → P (putAt a b s giving At a))
+      → P (putRow (b ∷ bs) a s)
+  row-either P f g = go (putAt a b s .answer) refl
+    where
+      go : (t : Bool) → putAt a b s .answer ≡ t → P (putRow (b ∷ bs) a s)
+      go true h = rw (row-on h) (f h)
+      go false h = rw (row-stop h) (g h)
+
+-- a row touches its cells alone
+pub row-within : (bs : List ℕ) (a : ℕ) (s : Chip) → Within (InRow (length bs) Up a) s (putRow bs a s)
+unfolding putRow next
+row-within [] a s = within-still Nowhere s
+row-within (b ∷ bs) a s =
+    let first : Within (InRow (suc (length bs)) Up a) s (putAt a b s) = within-wider (λ c e. rw e (in-first (length bs) Up a)) (put-within a b s) in
+    within-pick (putAt a b s .answer)
+    (within-then first (within-wider (in-longer (length bs) Up a) (row-within bs (a + 1) (putAt a b s .after))))
+    (within-giving (At a) first)
+
+-- a row tries no spare
+pub row-tried : (bs : List ℕ) (a : ℕ) (s : Chip) → putRow bs a s .tried ≡ 0
+unfolding putRow
+row-tried [] a s = refl
+row-tried (b ∷ bs) a s =
+    let first = put-tried a b s in
+    let rest = row-tried bs (a + 1) (putAt a b s .after) in
+    row-either b bs a s (λ r. r .tried ≡ 0) (λ h. omega arith) (λ h. first)
+
+-- a row asks at most one write a byte
+pub row-cost : (bs : List ℕ) (a : ℕ) (s : Chip) → length (putRow bs a s .log) ≤ length bs
+unfolding putRow
+row-cost [] a s = omega arith
+row-cost (b ∷ bs) a s =
+    let first = put-cost a b s in
+    let rest = row-cost bs (a + 1) (putAt a b s .after) in
+    row-either b bs a s (λ r. length (r .log) ≤ suc (length bs)) (λ h. rw length-append (omega arith)) (λ h. omega arith)
+
+-- the first byte stays while the rest are put
+row-first : (b : ℕ) (bs : List ℕ) (a : ℕ) (s : Chip) → putAt a b s .answer ≡ true → cellAt (putRow bs (a + 1) (putAt a b s .after) .after) a ≡ b
+row-first b bs a s h = within-kept (row-within bs (a + 1) (putAt a b s .after)) .cell a (λ i. omega arith) ∙ put-held a b s h
+
+-- a row that all holds leaves its bytes
+pub row-held : (bs : List ℕ) (a : ℕ) (s : Chip) → putRow bs a s .answer ≡ Nowhere → (j : ℕ) → j < length bs → cellAt (putRow bs a s .after) (a + j) ≡ getD bs j 0
+row-held [] a s = λ e j l. absurd (omega arith)
+row-held (b ∷ bs) a s =
+    row-either b bs a s
+    (λ r. r .answer ≡ Nowhere → (j : ℕ) → j < suc (length bs) → cellAt (r .after) (a + j) ≡ getD (b ∷ bs) j 0)
+    (λ h e. go h (row-held bs (a + 1) (putAt a b s .after) e))
+    (λ h e j l. cc)
+  where
+    rest : Run Found
+    rest = putRow bs (a + 1) (putAt a b s .after)
+
+    go : putAt a b s .answer ≡ true → ((j : ℕ) → j < length bs → cellAt (rest .after) (a + 1 + j) ≡ getD bs j 0) → (j : ℕ) → j < suc (length bs) → cellAt (rest .after) (a + j) ≡ getD (b ∷ bs) j 0
+    go h f zero l = rw add-zero (row-first b bs a s h)
+    go h f (suc j) l = let e : a + suc j ≡ a + 1 + j = omega arith in rw e (f j (omega arith))
+
+-- nowhere is no address
+nowhere≢at : (x : ℕ) → Nowhere ≡ At x → ⊥
+nowhere≢at x e = let z : _≡_ {A = ℕ} 0 1 = cc in omega arith
+
+-- what refuses a byte behind a put elsewhere refused it before
+still-refuses : (a b x c : ℕ) (s : Chip) → (x ≡ a → ⊥) → Refuses x c (putAt a b s .after) → Refuses x c s
+still-refuses a b x c s n r =
+    let k = within-kept (put-within a b s) in
+    record { worn = sym (k .life x n) ∙ r .worn; other = λ e. r .other (k .cell x n ∙ e) }
+
+-- a row fails where a cell refuses its byte
+pub row-failed : (bs : List ℕ) (a : ℕ) (s : Chip) → Paired s → (x : ℕ) → putRow bs a s .answer ≡ At x → Stopped bs a s x
+unfolding putRow
+row-failed [] a s p x = λ e. absurd (nowhere≢at x e)
+row-failed (b ∷ bs) a s p x =
+    row-either b bs a s
+    (λ r. r .answer ≡ At x → Stopped (b ∷ bs) a s x)
+    (λ h e. go (row-failed bs (a + 1) (putAt a b s .after) (kept-paired (within-kept (put-within a b s)) p) x e))
+    (λ h e. let same : a ≡ x = cc in record { index = 0; inside = omega arith; here = omega arith; refused = rw same at (put-laws a b s p .failed h) })
+  where
+    go : Stopped bs (a + 1) (putAt a b s .after) x → Stopped (b ∷ bs) a s x
+    go t = record {
+      index = suc (t .index);
+      inside = omega arith;
+      here = omega arith;
+      refused = still-refuses a b x (getD bs (t .index) 0) s (omega arith) (t .refused);
+    }
+
+-- a row of what is there asks nothing and changes nothing
+pub row-there : (bs : List ℕ) (a : ℕ) (s : Chip) → ((j : ℕ) → j < length bs → cellAt s (a + j) ≡ getD bs j 0) → putRow bs a s ≡ still Nowhere s
+unfolding putRow
+row-there [] a s f = refl
+row-there (b ∷ bs) a s f =
+    let here : cellAt s a ≡ b = rw add-zero at (f 0 (omega arith)) in
+    let others = row-there bs (a + 1) s (λ j l. rw (add-assoc, one-add) (f (suc j) (omega arith))) in
+    rw (put-there a b s here, others)
+
+-- a row all of whose cells have life holds
+pub row-alive : (bs : List ℕ) (a : ℕ) (s : Chip) → Paired s → ((j : ℕ) → j < length bs → 1 ≤ lifeAt s (a + j)) → putRow bs a s .answer ≡ Nowhere
+unfolding putRow
+row-alive [] a s p f = refl
+row-alive (b ∷ bs) a s p f =
+    let k = within-kept (put-within a b s) in
+    let here : 1 ≤ lifeAt s a = rw add-zero at (f 0 (omega arith)) in
+    let rest = row-alive bs (a + 1) (putAt a b s .after) (kept-paired k p) (λ j l. rw (k .life (a + 1 + j) (omega arith), add-assoc, one-add) (f (suc j) (omega arith))) in
+    rw (put-laws a b s p .alive here) rest
+
+-- all that is claimed, where there are as many lives as cells
+pub row-laws : (bs : List ℕ) (a : ℕ) (s : Chip) → Paired s → RowLaws bs a s
+row-laws bs a s p = record {
+  within = row-within bs a s;
+  kept = within-kept (row-within bs a s);
+  held = row-held bs a s;
+  failed = row-failed bs a s p;
+  there = row-there bs a s;
+  alive = row-alive bs a s p;
+  cost = row-cost bs a s;
+  tried = row-tried bs a s;
+}
+
+-- ## For code that puts a row: over what is said of its put, `v`
+
+module _ (b : ℕ) (bs : List ℕ) (a : ℕ) (s : Chip) {v : Seen Bool} (e : v ≡ view (putAt a b s)) where
+  -- the first put held
+  pub row-went-on : v .answer ≡ true → view (putRow (b ∷ bs) a s) ≡ plus (v .writes) 0 (view (putRow bs (a + 1) (v .after)))
+  row-went-on h = rw (row-on b bs a s (said-answer (putAt a b s) e h), e) (view-then (putAt a b s) _ ∙ rw (put-tried a b s))
+
+  -- the first put failed
+  pub row-stopped : v .answer ≡ false → view (putRow (b ∷ bs) a s) ≡ seen (At a) (v .writes) 0 (v .after)
+  row-stopped h = rw (row-stop b bs a s (said-answer (putAt a b s) e h), put-tried a b s, e)
+
 -- what is left of a row when i of its bytes have been put
-abbrev pub leftRow : List ℕ → ℕ → ℕ → Chip → Run Found
-leftRow bytes a i s = putRow (drop i bytes) (a + i) s
+abbrev pub rowLeft : List ℕ → ℕ → ℕ → Chip → Run Found
+rowLeft bytes a i s = putRow (drop i bytes) (a + i) s
 
 module _ (bytes : List ℕ) (a : ℕ) where
-  pub row-all : (s : Chip) → view (putRow bytes a s) ≡ plus 0 0 (view (leftRow bytes a 0 s))
-  row-all s = simp (add-zero, zero-add)
+  -- at first, all of it
+  pub row-left-all : (s : Chip) → view (putRow bytes a s) ≡ plus 0 0 (view (rowLeft bytes a 0 s))
+  row-left-all s = simp (add-zero, zero-add)
 
-  pub row-none : (w i : ℕ) (s : Chip) → i ≡ length bytes → plus w 0 (view (leftRow bytes a i s)) ≡ seen Nowhere w 0 s
+  -- at the end, nothing
+  pub row-left-none : (w i : ℕ) (s : Chip) → i ≡ length bytes → plus w 0 (view (rowLeft bytes a i s)) ≡ seen Nowhere w 0 s
   unfolding putRow
-  row-none w i s e = rw (e, drop-length bytes, add-zero)
+  row-left-none w i s e = rw (e, drop-length bytes, add-zero w)
 
   module _ (i : ℕ) (s : Chip) (inside : i < length bytes) {v : Seen Bool} (e : v ≡ view (putAt (a + i) (getD bytes i 0) s)) where
-    pub row-held : v .answer ≡ true → view (leftRow bytes a i s) ≡ plus (v .writes) 0 (view (leftRow bytes a (i + 1) (v .after)))
-    row-held h =
-        rw (add-one, drop-cons bytes i 0, row-on _ _ _ _ (said-answer _ _ s v e true h), view-then, put-tried, ← add-one, add-assoc, e)
+    -- the put of the byte numbered i held
+    pub row-left-held : v .answer ≡ true → view (rowLeft bytes a i s) ≡ plus (v .writes) 0 (view (rowLeft bytes a (i + 1) (v .after)))
+    row-left-held h = rw (drop-cons bytes i 0, ← add-assoc a i 1, add-one i) (row-went-on _ _ _ s e h)
 
-    pub row-failed : v .answer ≡ false → view (leftRow bytes a i s) ≡ seen (At (a + i)) (v .writes) 0 (v .after)
-    row-failed h = rw (drop-cons bytes i 0, row-stop _ _ _ _ (said-answer _ _ s v e false h), put-tried, e)
+    -- the put of the byte numbered i failed
+    pub row-left-failed : v .answer ≡ false → view (rowLeft bytes a i s) ≡ seen (At (a + i)) (v .writes) 0 (v .after)
+    row-left-failed h = rw (drop-cons bytes i 0) (row-stopped _ _ _ s e h)
+
+-- a row says of at most one write a byte
+pub row-few : (bs : List ℕ) (a : ℕ) (s : Chip) {v : Seen Found} → v ≡ view (putRow bs a s) → v .writes ≤ length bs
+row-few bs a s e = rw e (row-cost bs a s)

@@ -1,6 +1,6 @@
 -- Laws of a walk along a row of cells: what it keeps, what it changes, what it costs.
-use Prim.Native.Nat.{ℕ, zero, suc, _+_, _-_, _≤_, _<_, _^_}
-use mathlib.Core.Path.{_≡_, refl, sym, ap, _∙_}
+use Prim.Native.Nat.{ℕ, zero, suc, _+_, _-_, _≤_, _<_}
+use mathlib.Core.Path.{_≡_, refl, ap, _∙_}
 use mathlib.Core.Bool.{Bool, true, false}
 use mathlib.Core.List.{[], _∷_, _++_}
 use native.Mathlib.Nat.{zero-add, add-zero, sub-zero, sub-self}
@@ -8,67 +8,19 @@ use native.Mathlib.Numerals.{one-add}
 use native.Mathlib.Omega.{arith}
 use lib.ListN.{length, length-append}
 use Rattle.cells.specs.declared.row.Way.{Way}
-use Rattle.cells.specs.declared.row.Way.the-variants.{Up, Down}
 use Rattle.cells.specs.declared.row.Found.{Found}
 use Rattle.cells.specs.declared.row.Found.the-variants.{At, Nowhere}
 use Rattle.cells.specs.Chip.{Chip, lifeAt, Paired, Kept}
 use Rattle.cells.specs.Run.{write, Run, run, Seen, seen, view, plus, _then_, _giving_}
 use Rattle.cells.specs.Log.{Within}
 use Rattle.cells.specs.Put.{putAt}
-use Rattle.cells.specs.Row.{next, nth, walk, tryAt, RowFits, InRow, asks}
+use Rattle.cells.specs.Row.{next, nth, InRow, tryAt, walk, asks}
+use Rattle.cells.proofs.Views.{view-then, said-answer}
 use Rattle.cells.proofs.Logs.{within-still, within-wider, within-pick, within-giving, within-then, within-kept}
-use Rattle.cells.proofs.Puts.{Refuses, put-within, put-cost, put-failed, put-laws, said-answer}
+use Rattle.cells.proofs.Addresses.{nth-zero, nth-next, nth-suc, in-first, in-longer}
+use Rattle.cells.proofs.Puts.{Refuses, put-within, put-cost, put-failed, put-laws}
 
--- a shorter row is in a larger image
-pub row-part : {m n : ℕ} (size larger : ℕ) (way : Way) (a : ℕ) → m ≤ n → size ≤ larger → RowFits size way a n → RowFits larger way a m
-unfolding RowFits
-row-part size larger Up a h k r = omega arith
-row-part size larger Down a h k r = (omega arith, λ p. let q = r .1 (omega arith) in omega arith)
-
--- each cell of a row is in the image
-pub row-cell : {n j : ℕ} (size : ℕ) (way : Way) (a : ℕ) → j < n → RowFits size way a n → nth way a j < size
-unfolding RowFits nth
-row-cell size Up a h r = omega arith
-row-cell size Down a h r = let q = r .1 (omega arith) in omega arith
-
--- the neighbour of the j-th cell is the next one
-pub nth-next : (way : Way) (a j : ℕ) → next way (nth way a j) ≡ nth way a (j + 1)
-unfolding next nth
-nth-next Up a j = omega arith
-nth-next Down a j = omega arith
-
-pub nth-zero : (way : Way) (a : ℕ) → nth way a 0 ≡ a
-unfolding nth
-nth-zero Up a = omega arith
-nth-zero Down a = omega arith
-
-pub nth-suc : (way : Way) (a j : ℕ) → nth way (next way a) j ≡ nth way a (suc j)
-unfolding next nth
-nth-suc Up a j = omega arith
-nth-suc Down a j = omega arith
-
--- each cell of a row is in the row
-pub in-row : {n j : ℕ} (way : Way) (a : ℕ) → j < n → InRow n way a (nth way a j)
-unfolding InRow nth
-in-row Up a h = omega arith
-in-row Down a h = omega arith
-
--- so is its first
-pub in-first : (n : ℕ) (way : Way) (a : ℕ) → InRow (suc n) way a a
-unfolding InRow
-in-first n Up a = omega arith
-in-first n Down a = omega arith
-
--- the row from the neighbour on is in the row
-pub in-longer : (n : ℕ) (way : Way) (a c : ℕ) → InRow n way (next way a) c → InRow (suc n) way a c
-unfolding InRow next
-in-longer n Up a c r = omega arith
-in-longer n Down a c r = omega arith
-
-pub asks-length : (n : ℕ) (way : Way) (a b : ℕ) → length (asks n way a b) ≡ n
-unfolding asks
-asks-length zero way a b = refl
-asks-length (suc n) way a b = ap suc (asks-length n way (next way a) b)
+-- ## What is claimed
 
 -- a walk misses: each of its cells was asked and refuses the byte, and the chip is as it was
 pub record Missed (n : ℕ) (way : Way) (a b : ℕ) (s : Chip) : Type 0 where
@@ -103,6 +55,14 @@ pub record WalkLaws (n : ℕ) (way : Way) (a b : ℕ) (s : Chip) : Type 0 where
   pub cost : length (walk n way a b s .log) ≤ walk n way a b s .tried
   pub tried : walk n way a b s .tried ≤ n
 
+-- ## Its proof
+
+-- one write for each cell
+pub asks-length : (n : ℕ) (way : Way) (a b : ℕ) → length (asks n way a b) ≡ n
+unfolding asks
+asks-length zero way a b = refl
+asks-length (suc n) way a b = ap suc (asks-length n way (next way a) b)
+
 module _ (n : ℕ) (way : Way) (a b : ℕ) (s : Chip) where
   -- a walk whose first put holds ends there
   pub walk-hit : putAt a b s .answer ≡ true → walk (suc n) way a b s ≡ tryAt a b s giving At a
@@ -115,7 +75,7 @@ module _ (n : ℕ) (way : Way) (a b : ℕ) (s : Chip) where
   walk-miss h = rw h
 
   -- whatever holds in both cases holds of a walk
-  pub walk-either :
+  walk-either :
       (P : Run Found → Type 0)
       → (putAt a b s .answer ≡ true → P (tryAt a b s giving At a))
       → (putAt a b s .answer ≡ false → P (tryAt a b s then walk n way (next way a) b (putAt a b s .after)))
@@ -150,10 +110,12 @@ module _ (n : ℕ) (way : Way) (a b : ℕ) (s : Chip) where
     unfolding tryAt
     goes = rw (walk-miss f, put-laws a b s p .unchanged f)
 
+    -- the first cell refuses the byte, as those behind it do
     refused-too : {m : ℕ} → ((j : ℕ) → j < m → Refuses (nth way (next way a) j) b s) → (j : ℕ) → j < suc m → Refuses (nth way a j) b s
     refused-too r zero l = rw nth-zero (put-laws a b s p .failed f)
     refused-too r (suc j) l = rw nth-suc at (r j (omega arith))
 
+    -- a walk that misses or hits from the neighbour on does so from here on
     passed : Walking n way (next way a) b s → Walking (suc n) way a b s
     unfolding asks
     passed (missed m) = missed (record { refused = refused-too (m .refused); comes = rw (goes, m .comes, one-add) })
@@ -175,6 +137,7 @@ walking (suc n) way a b s p = go (walking n way (next way a) b s p) (putAt a b s
     go w true h = hit-first n way a b s h
     go w false h = passed n way a b s h p w
 
+-- a walk touches the cells of its row alone
 pub walk-within : (n : ℕ) (way : Way) (a b : ℕ) (s : Chip) → Within (InRow n way a) s (walk n way a b s)
 unfolding walk
 walk-within zero way a b s = within-still Nowhere s
@@ -189,54 +152,71 @@ walk-first : (n : ℕ) (way : Way) (a b : ℕ) (s : Chip) → Paired s → 1 ≤
 walk-first zero way a b s p h l = absurd (omega arith)
 walk-first (suc n) way a b s p h l = walk-hit n way a b s (put-laws a b s p .alive l)
 
+-- a walk asks at most one write of each cell tried, and tries no more than there are
+pub walk-cost : (n : ℕ) (way : Way) (a b : ℕ) (s : Chip) → (length (walk n way a b s .log) ≤ walk n way a b s .tried) × (walk n way a b s .tried ≤ n)
+unfolding walk tryAt
+walk-cost zero way a b s = (omega arith, omega arith)
+walk-cost (suc n) way a b s =
+    let first = put-cost a b s in
+    let rest = walk-cost n way (next way a) b (putAt a b s .after) in
+    walk-either n way a b s
+    (λ r. (length (r .log) ≤ r .tried) × (r .tried ≤ suc n))
+    (λ h. (first, omega arith))
+    (λ h. (rw length-append (omega arith), omega arith))
+
+-- all that is claimed, where there are as many lives as cells
 pub walk-laws : (n : ℕ) (way : Way) (a b : ℕ) (s : Chip) → Paired s → WalkLaws n way a b s
 walk-laws n way a b s p = record {
   within = walk-within n way a b s;
   kept = within-kept (walk-within n way a b s);
   walking = walking n way a b s p;
   first = walk-first n way a b s p;
-  cost = cost (walking n way a b s p);
-  tried = tried (walking n way a b s p);
+  cost = walk-cost n way a b s .0;
+  tried = walk-cost n way a b s .1;
 }
-  where
-    cost : Walking n way a b s → length (walk n way a b s .log) ≤ walk n way a b s .tried
-    cost (missed m) = rw (m .comes, asks-length) (omega arith)
-    cost (hit m) = let c = put-cost (nth way a (m .index)) b s in rw (m .comes, length-append, asks-length) (omega arith)
 
-    tried : Walking n way a b s → walk n way a b s .tried ≤ n
-    tried (missed m) = rw (m .comes) (omega arith)
-    tried (hit m) = rw (m .comes) (omega arith)
+-- ## For code that walks: over what is said of its put, `v`
 
--- what is said of a walk's first turn
 module _ (n : ℕ) (way : Way) (a b : ℕ) (s : Chip) {v : Seen Bool} (e : v ≡ view (putAt a b s)) where
+  -- the first put held
   pub walk-held : v .answer ≡ true → view (walk (suc n) way a b s) ≡ seen (At a) (v .writes) 1 (v .after)
   unfolding tryAt
-  walk-held h = rw (walk-hit n way a b s (said-answer a b s v e true h), e)
+  walk-held h = rw (walk-hit n way a b s (said-answer (putAt a b s) e h), e)
 
+  -- the first put failed
   pub walk-passed : v .answer ≡ false → view (walk (suc n) way a b s) ≡ plus 1 1 (view (walk n way (next way a) b (v .after)))
   unfolding tryAt
   walk-passed h =
-      let f = said-answer a b s v e false h in
-      rw (walk-miss n way a b s f, put-failed a b s f, e) (simp one-add)
+      let f = said-answer (putAt a b s) e h in
+      rw (walk-miss n way a b s f, e) (view-then (tryAt a b s) _ ∙ rw (put-failed a b s f))
 
 -- what is left of a walk of so many cells when j of them have been passed over
-abbrev pub left : ℕ → Way → ℕ → ℕ → ℕ → Chip → Run Found
-left cells way a b j s = walk (cells - j) way (nth way a j) b s
+abbrev pub walkLeft : ℕ → Way → ℕ → ℕ → ℕ → Chip → Run Found
+walkLeft cells way a b j s = walk (cells - j) way (nth way a j) b s
 
 module _ (cells : ℕ) (way : Way) (a b : ℕ) where
-  pub left-all : (s : Chip) → view (walk cells way a b s) ≡ plus 0 0 (view (left cells way a b 0 s))
-  left-all s = simp (nth-zero, sub-zero, zero-add)
+  -- at first, all of it
+  pub walk-left-all : (s : Chip) → view (walk cells way a b s) ≡ plus 0 0 (view (walkLeft cells way a b 0 s))
+  walk-left-all s = simp (nth-zero, sub-zero, zero-add)
 
-  pub left-none : (j : ℕ) (s : Chip) → j ≡ cells → plus j j (view (left cells way a b j s)) ≡ seen Nowhere cells cells s
+  -- at the end, nothing: each cell was asked one write
+  pub walk-left-none : (j : ℕ) (s : Chip) → j ≡ cells → plus j j (view (walkLeft cells way a b j s)) ≡ seen Nowhere cells cells s
   unfolding walk
-  left-none j s e = rw (e, sub-self, add-zero)
+  walk-left-none j s e = rw (e, sub-self, add-zero)
 
   module _ (j at : ℕ) (s : Chip) (inside : j < cells) (here : at ≡ nth way a j) {v : Seen Bool} (e : v ≡ view (putAt at b s)) where
+    -- there is a cell left
     more : cells - j ≡ suc (cells - (j + 1))
     more = omega arith
 
-    pub left-held : v .answer ≡ true → view (left cells way a b j s) ≡ seen (At at) (v .writes) 1 (v .after)
-    left-held h = rw (more, ← here) (walk-held _ way at b s e h)
+    -- the put at the j-th cell held
+    pub walk-left-held : v .answer ≡ true → view (walkLeft cells way a b j s) ≡ seen (At at) (v .writes) 1 (v .after)
+    walk-left-held h = rw (more, ← here) (walk-held _ way at b s e h)
 
-    pub left-passed : v .answer ≡ false → view (left cells way a b j s) ≡ plus 1 1 (view (left cells way a b (j + 1) (v .after)))
-    left-passed h = rw (more, ← nth-next, ← here) (walk-passed _ way at b s e h)
+    -- the put at the j-th cell failed
+    pub walk-left-passed : v .answer ≡ false → view (walkLeft cells way a b j s) ≡ plus 1 1 (view (walkLeft cells way a b (j + 1) (v .after)))
+    walk-left-passed h = rw (more, ← nth-next, ← here) (walk-passed _ way at b s e h)
+
+-- a walk says of at most a write and a try for each cell
+pub walk-few : (n : ℕ) (way : Way) (a b : ℕ) (s : Chip) {v : Seen Found} → v ≡ view (walk n way a b s) → (v .writes ≤ v .tried) × (v .tried ≤ n)
+walk-few n way a b s e = rw e (walk-cost n way a b s)

@@ -1,12 +1,14 @@
--- Laws of a write and of what a chip keeps.
-use Prim.Native.Nat.{ℕ, zero, suc, _-_, _≤_, _<_}
-use mathlib.Core.Path.{_≡_, refl, sym, ap, _∙_}
+-- Laws of a write, and of what a chip keeps.
+use Prim.Native.Nat.{ℕ, _-_, _≤_, _<_}
+use mathlib.Core.Path.{_≡_, refl, sym, _∙_}
 use native.Mathlib.Decide.{decLe}
 use native.Mathlib.Omega.{arith}
 use borrow.Author.Tests.{lt-ltb, le-ltb}
-use lib.ListN.{length, getD, set, length-set, List·getD-eq-default}
+use lib.ListN.{length, set, length-set, List·getD-eq-default}
 use lib.Seq.{getD-set-same, getD-set-other}
 use Rattle.cells.specs.Chip.{Chip, chip, cellAt, lifeAt, writeAt, Paired, Kept}
+
+-- ## What a chip keeps
 
 module _ {Place : ℕ → Type 0} where
   -- a chip keeps itself
@@ -35,6 +37,8 @@ module _ {Place : ℕ → Type 0} where
   pub kept-paired : {s t : Chip} → Kept Place s t → Paired s → Paired t
   kept-paired k p = k .lives-length ∙ p ∙ sym (k .cells-length)
 
+-- ## A write
+
 -- what a write keeps, what it changes, and what it costs
 pub record WriteLaws (a b : ℕ) (s : Chip) : Type 0 where
   pub kept : Kept (λ c. c ≡ a) s (writeAt a b s)
@@ -51,14 +55,17 @@ alive-inside s a h = go (decLe (length (s .lives)) a)
     go (no n) = omega arith
 
 module _ (a b : ℕ) (s : Chip) where
+  -- a worn cell changes nothing
   write-worn : lifeAt s a ≡ 0 → writeAt a b s ≡ s
   unfolding writeAt
   write-worn e = rw (le-ltb 0 (lifeAt s a) (omega arith))
 
+  -- a cell with life stores the byte and loses one
   write-live : 1 ≤ lifeAt s a → writeAt a b s ≡ chip (set (s .cells) a b) (set (s .lives) a (lifeAt s a - 1))
   unfolding writeAt
   write-live h = rw (lt-ltb 0 (lifeAt s a) h)
 
+  -- all that is claimed
   pub write-laws : WriteLaws a b s
   write-laws = go (decLe 1 (lifeAt s a))
     where

@@ -1,7 +1,7 @@
 -- A chip as lent, and a write to one of its cells (document 01, "The chip as lent").
 use Prim.Native.Nat.{ℕ, _-_}
-use mathlib.Core.Bool.{Bool, true, false}
 use mathlib.Core.Path.{_≡_}
+use mathlib.Core.Bool.{Bool, true, false}
 use mathlib.Core.List.{List}
 use lib.ListN.{getD, length, set}
 use lib.Dec.{ltb}
@@ -33,7 +33,7 @@ writeAt a b s = pick (ltb 0 (lifeAt s a)) (chip (set (s .cells) a b) (set (s .li
 abbrev pub Paired : Chip → Type 0
 Paired s = length (s .lives) ≡ length (s .cells)
 
--- the second chip is as the first, but for cells where the place is
+-- the second chip is as long as the first, and the same at every address outside the place
 pub record Kept (Place : ℕ → Type 0) (s t : Chip) : Type 0 where
   pub cells-length : length (t .cells) ≡ length (s .cells)
   pub lives-length : length (t .lives) ≡ length (s .lives)

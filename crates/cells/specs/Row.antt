@@ -15,6 +15,21 @@ unfoldable pub next : Way → ℕ → ℕ
 next Up a = a + 1
 next Down a = a - 1
 
+-- the j-th cell of a row, the first being number 0
+abbrev pub nth : Way → ℕ → ℕ → ℕ
+nth Up a j = a + j
+nth Down a j = a - j
+
+-- the n cells from a on are in an image of so many cells
+abbrev pub RowFits : ℕ → Way → ℕ → ℕ → Type 0
+RowFits size Up a n = a + n ≤ size
+RowFits size Down a n = (n ≤ a + 1) × (0 < n → a < size)
+
+-- the address is one of the n cells from a on
+abbrev pub InRow : ℕ → Way → ℕ → ℕ → Type 0
+InRow n Up a c = (a ≤ c) × (c < a + n)
+InRow n Down a c = (c ≤ a) × (a < c + n)
+
 -- a put that counts as a cell tried
 unfoldable pub tryAt : ℕ → ℕ → Chip → Run Bool
 tryAt a b s = let r = putAt a b s in run (r .answer) (r .log) 1 (r .after)
@@ -34,21 +49,6 @@ putRow (b ∷ bs) a s =
     let r = putAt a b s in
     let rest = r then putRow bs (a + 1) (r .after) in
     pick (r .answer) rest (r giving At a)
-
--- the j-th cell of a row, the first being number 0
-unfoldable pub nth : Way → ℕ → ℕ → ℕ
-nth Up a j = a + j
-nth Down a j = a - j
-
--- the n cells from a on are in an image of so many cells
-unfoldable pub RowFits : ℕ → Way → ℕ → ℕ → Type 0
-RowFits size Up a n = a + n ≤ size
-RowFits size Down a n = (n ≤ a + 1) × (0 < n → a < size)
-
--- the address is one of the n cells from a on
-unfoldable pub InRow : ℕ → Way → ℕ → ℕ → Type 0
-InRow n Up a c = (a ≤ c) × (c < a + n)
-InRow n Down a c = (c ≤ a) × (a < c + n)
 
 -- the byte asked of each of the n cells from a on
 unfoldable pub asks : ℕ → Way → ℕ → ℕ → List Write

@@ -33,7 +33,7 @@ pub struct RowPut {
 }
 
 // The address of the j-th cell of a row.
-fn cell_of(way: Way, from: usize, j: usize) -> usize
+fn nth(way: Way, from: usize, j: usize) -> usize
     requires { ⌜ RowFits (2 ^ 64) way from (j + 1) ⌝ }
     ensures { λ r. ⌜ r ≡ nth way from j ⌝ }
 {
@@ -57,7 +57,7 @@ pub fn walk(
 {
     let mut j = 0;
     while j < cells {
-        let at = cell_of(way, from, j);
+        let at = nth(way, from, j);
         let done = put(image, lives, at, byte);
         if done.held {
             return Walked {

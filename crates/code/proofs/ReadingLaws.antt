@@ -6,8 +6,8 @@
 --   code-complement     the codes of d and 15 - d are complements
 --   tally               how many readings of a list are clean, mended and lost
 --   tally-of-bytes      of the 256 bytes 16 are clean, 128 mended and 112 lost
---   no-twofold          no byte is one bit from two codes
 --   entry-reading       the entry of a byte stands for its reading
+--   no-twofold          no byte is one bit from two codes
 --   entry-twofold       the entry of a byte is 145 just where it is one bit from two codes
 --   nibble-read-small   the nibble that a reading gives is below 16
 --   nibble-round        the code of a word's nibble reads as that nibble
@@ -86,20 +86,30 @@ pub tally-of-bytes : tally (tabulate readingOf 0 256) ≡ (16, 128, 112)
 unfolding codes distance nearFrom near readingOf ones
 tally-of-bytes = refl
 
--- no byte is one bit from two codes
-pub no-twofold : (b : ℕ) → b < 256 → twofold b ≡ false
-unfolding codes distance nearFrom near twofold ones
-no-twofold = agree twofold (λ b. false) 256 refl
+-- what the entry of a byte tells of its reading and of two codes one bit away, and what the rule says of such codes
+abbrev told : ℕ → Reading × Bool × Bool
+told b = (readingAt (entryOf b), eqb (entryOf b) 145, twofold b)
+
+-- what they should be
+abbrev due : ℕ → Reading × Bool × Bool
+due b = (readingOf b, false, false)
+
+-- the test over the whole table
+table-right : (b : ℕ) → b < 256 → told b ≡ due b
+unfolding codes codeOf distance nearFrom near readingOf twofold entryOf ones trailingZeros
+table-right = agree told due 256 refl
 
 -- the entry of a byte stands for its reading
 pub entry-reading : (b : ℕ) → b < 256 → readingAt (entryOf b) ≡ readingOf b
-unfolding codes codeOf distance nearFrom near readingOf entryOf ones trailingZeros
-entry-reading = agree (λ b. readingAt (entryOf b)) readingOf 256 refl
+entry-reading b h = ap (λ right. right .0) (table-right b h)
+
+-- no byte is one bit from two codes
+pub no-twofold : (b : ℕ) → b < 256 → twofold b ≡ false
+no-twofold b h = ap (λ right. right .2) (table-right b h)
 
 -- the entry of a byte is 145 just where it is one bit from two codes
 pub entry-twofold : (b : ℕ) → b < 256 → eqb (entryOf b) 145 ≡ twofold b
-unfolding codes codeOf distance nearFrom near twofold entryOf ones trailingZeros
-entry-twofold = agree (λ b. eqb (entryOf b) 145) twofold 256 refl
+entry-twofold b h = ap (λ right. right .1) (table-right b h) ∙ sym (no-twofold b h)
 
 -- a list's first number, if it has one, is below n
 abbrev FirstBelow : ℕ → List ℕ → Type 0

@@ -4,4 +4,4 @@ pub mod codes;
 pub mod gray;
 pub mod nibbles;
 pub mod reading;
-mod table;
+pub mod table;

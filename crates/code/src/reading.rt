@@ -12,7 +12,7 @@ pub enum Reading {
 }
 
 // The reading that an entry stands for.
-fn reading_at(entry: u8) -> Reading
+pub fn reading_at(entry: u8) -> Reading
     ensures { λ r. ⌜ r ≡ readingAt entry ⌝ }
 {
     if entry < 16 {

@@ -2,6 +2,8 @@
 // words"). A byte that is the code of d has the entry d, one that differs from the code of d in bit i alone has 16 + 8 * d + i,
 // one near no code has 144, and one that is one bit from two codes would have 145.
 ghost use mathlib.Core.Path.{_≡_};
+ghost use Prim.Native.Nat.{ℕ, _<_};
+ghost use lib.ListN.{getD};
 ghost use Rattle.code.specs.Entries.{entryOf};
 
 // The entries of the bytes 00 to FF.
@@ -264,9 +266,38 @@ const TABLE: [u8; 256] = [
     143,
 ];
 
-// The entry of a byte in the table.
+// A byte as a number of any size.
+pub fn wide(byte: u8) -> usize
+    ensures { λ r. ⌜ (r ≡ byte) × (r < 256) ⌝ }
+{
+    byte as usize
+}
+
+// The table, whose every entry is that of its byte.
+fn table() -> [u8; 256]
+    ensures { λ r. ⌜ ((b : ℕ) → b < 256 → getD r b 0 ≡ entryOf b) ⌝ }
+{
+    TABLE
+}
+
+// The entry of a byte.
 pub fn entry_of(byte: u8) -> u8
     ensures { λ r. ⌜ r ≡ entryOf byte ⌝ }
 {
-    TABLE[byte as usize]
+    let entries = table();
+    entries[byte as usize]
+}
+
+// The entries of sixteen bytes, for which the table is laid out once.
+pub fn entries_of(bytes: &[u8; 16]) -> [u8; 16]
+    ensures { λ r. ⌜ ((k : ℕ) → k < 16 → getD r k 0 ≡ entryOf (getD (now (bytes .entry)) k 0)) ⌝ }
+{
+    let table = table();
+    let mut entries = [0u8; 16];
+    let mut k = 0;
+    while k < 16 {
+        entries[k] = table[wide(bytes[k])];
+        k += 1;
+    }
+    entries
 }

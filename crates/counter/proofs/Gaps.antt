@@ -2,19 +2,21 @@
 --   Between                   the gap that the pointers of the slots below n leave
 --   between-none              before any cell is taken
 --   between-more              one more address taken
---   between-gap               a map's own gap is such a gap
---   gap-more                  the gap of one slot more
+--   between-gap, between-map  the gap of the definitions is such a gap
 --   between-ordered           sound pointers leave high at or below low, and both in the area
 --   Free                      an address of a kind may be taken from a gap
 --   Spare                     the same in the document's words, over the pointers
 --   spare-free, free-spare    the two are one
 --   walked-free, free-walked  a walk over the spares goes over just those
+--   spare-fresh               no pointer is a spare
+--   between-unique            a gap is all that its properties say
+--   between-moved             a pointer moved to a free cell narrows the gap by it
 --   sound-joined              sound pointers, one of them put at a spare
+--   gap-more                  the gap of one slot more
 use Prim.Native.Nat.{ℕ, zero, suc, _+_, _-_, _*_, _≤_, _<_, min, max}
 use mathlib.Core.Path.{_≡_, refl, sym, ap, _∙_}
 use mathlib.Core.Bool.{Bool, true, false}
 use native.Mathlib.Decide.{decLt, ℕ-discrete}
-use native.Mathlib.Numerals.{add-one}
 use native.Mathlib.Omega.{arith}
 use Rattle.cells.specs.declared.row.Way.{Way}
 use Rattle.cells.specs.declared.row.Way.the-variants.{Up, Down}
@@ -26,6 +28,7 @@ use Rattle.counter.specs.declared.spares.Gap.{Gap}
 use Rattle.counter.specs.Slots.{slots, kindOf}
 use Rattle.counter.specs.Spares.{gap, wholeArea, narrow, gapTo, gapOf, wayOf, nextOf, sparesOf}
 use Rattle.counter.proofs.SoundPointers.{Inside, Sound}
+use native.Mathlib.Numerals.{add-one}
 
 -- above every High pointer and the least such from S on; at or below every Low pointer and the greatest such up to E + 1
 pub record Between (n : ℕ) (p : Places) (pointer : ℕ → ℕ) (g : Gap) : Type 0 where
@@ -39,14 +42,14 @@ pub record Between (n : ℕ) (p : Places) (pointer : ℕ → ℕ) (g : Gap) : Ty
 pub between-none : (p : Places) (pointer : ℕ → ℕ) → Between 0 p pointer (wholeArea p)
 unfolding wholeArea
 between-none p pointer =
-    record {
-      start = omega arith;
-      end = omega arith;
-      above = λ k l e. absurd (omega arith);
-      below = λ k l e. absurd (omega arith);
-      least = λ a l h. l;
-      greatest = λ a l h. l;
-    }
+    record
+      { start = omega arith
+      ; end = omega arith
+      ; above = λ k l e. absurd (omega arith)
+      ; below = λ k l e. absurd (omega arith)
+      ; least = λ a l h. l
+      ; greatest = λ a l h. l
+      }
 
 narrow-high : (a : ℕ) (g : Gap) → narrow High a g ≡ gap (max (g .high) (a + 1)) (g .low)
 unfolding narrow
@@ -67,25 +70,25 @@ last P n h e k l = go (ℕ-discrete k n)
 module _ {n : ℕ} {p : Places} {pointer : ℕ → ℕ} {g : Gap} (b : Between n p pointer g) where
   more-high : (a : ℕ) → kindOf n ≡ High → pointer n ≡ a → Between (suc n) p pointer (gap (max (g .high) (a + 1)) (g .low))
   more-high a kind at =
-      record {
-        start = let h = b .start in omega arith;
-        end = b .end;
-        above = last (λ k. kindOf k ≡ High → pointer k < max (g .high) (a + 1)) n (λ k l e. let h = b .above k l e in omega arith) (λ e. omega arith);
-        below = last (λ k. kindOf k ≡ Low → g .low ≤ pointer k) n (b .below) (λ e. let z : _≡_ {A = ℕ} 0 1 = cc in absurd (omega arith));
-        least = λ c l h. let x = b .least c l (λ k m e. h k (omega arith) e) in let y = h n (omega arith) kind in omega arith;
-        greatest = λ c l h. b .greatest c l (λ k m e. h k (omega arith) e);
-      }
+      record
+        { start = let h = b .start in omega arith
+        ; end = b .end
+        ; above = last (λ k. kindOf k ≡ High → pointer k < max (g .high) (a + 1)) n (λ k l e. let h = b .above k l e in omega arith) (λ e. omega arith)
+        ; below = last (λ k. kindOf k ≡ Low → g .low ≤ pointer k) n (b .below) (λ e. let z : _≡_ {A = ℕ} 0 1 = cc in absurd (omega arith))
+        ; least = λ c l h. let x = b .least c l (λ k m e. h k (omega arith) e) in let y = h n (omega arith) kind in omega arith
+        ; greatest = λ c l h. b .greatest c l (λ k m e. h k (omega arith) e)
+        }
 
   more-low : (a : ℕ) → kindOf n ≡ Low → pointer n ≡ a → Between (suc n) p pointer (gap (g .high) (min (g .low) a))
   more-low a kind at =
-      record {
-        start = b .start;
-        end = let h = b .end in omega arith;
-        above = last (λ k. kindOf k ≡ High → pointer k < g .high) n (b .above) (λ e. let z : _≡_ {A = ℕ} 0 1 = cc in absurd (omega arith));
-        below = last (λ k. kindOf k ≡ Low → min (g .low) a ≤ pointer k) n (λ k l e. let h = b .below k l e in omega arith) (λ e. omega arith);
-        least = λ c l h. b .least c l (λ k m e. h k (omega arith) e);
-        greatest = λ c l h. let x = b .greatest c l (λ k m e. h k (omega arith) e) in let y = h n (omega arith) kind in omega arith;
-      }
+      record
+        { start = b .start
+        ; end = let h = b .end in omega arith
+        ; above = last (λ k. kindOf k ≡ High → pointer k < g .high) n (b .above) (λ e. let z : _≡_ {A = ℕ} 0 1 = cc in absurd (omega arith))
+        ; below = last (λ k. kindOf k ≡ Low → min (g .low) a ≤ pointer k) n (λ k l e. let h = b .below k l e in omega arith) (λ e. omega arith)
+        ; least = λ c l h. b .least c l (λ k m e. h k (omega arith) e)
+        ; greatest = λ c l h. let x = b .greatest c l (λ k m e. h k (omega arith) e) in let y = h n (omega arith) kind in omega arith
+        }
 
   pub between-more : (a : ℕ) → pointer n ≡ a → Between (suc n) p pointer (narrow (kindOf n) a g)
   between-more a at = go (kindOf n) refl
@@ -99,9 +102,9 @@ unfolding gapTo
 between-gap zero p pointer = between-none p pointer
 between-gap (suc n) p pointer = between-more (between-gap n p pointer) (pointer n) refl
 
-pub gap-more : (k : ℕ) (p : Places) (pointer : ℕ → ℕ) → narrow (kindOf k) (pointer k) (gapTo k p pointer) ≡ gapTo (k + 1) p pointer
-unfolding gapTo
-gap-more k p pointer = rw (add-one k)
+pub between-map : (copies : ℕ) (p : Places) (pointer : ℕ → ℕ) → Between (slots copies) p pointer (gapOf copies p pointer)
+unfolding gapOf
+between-map copies p pointer = between-gap (slots copies) p pointer
 
 -- sound pointers leave a gap that is none or more cells of the area
 pub between-ordered : {n : ℕ} {p : Places} {pointer : ℕ → ℕ} {g : Gap} → p .start ≤ p .end + 1 → Sound n p pointer → Between n p pointer g → g .high ≤ g .low
@@ -127,31 +130,92 @@ pub record Spare (kind : Kind) (n : ℕ) (p : Places) (pointer : ℕ → ℕ) (a
 module _ {kind : Kind} {n : ℕ} {p : Places} {pointer : ℕ → ℕ} {g : Gap} {a : ℕ} (b : Between n p pointer g) where
   pub free-spare : Free kind g a → Spare kind n p pointer a
   free-spare f =
-      record {
-        inside = record { from = let h = b .start in let h′ = f .from in omega arith; to = let h = b .end in let h′ = f .to in omega arith };
-        reach = f .reach;
-        above = λ k l e. let h = b .above k l e in let h′ = f .from in omega arith;
-        below = λ k l e. let h = b .below k l e in let h′ = f .to in omega arith;
-      }
+      record
+        { inside = record { from = let h = b .start in let h′ = f .from in omega arith; to = let h = b .end in let h′ = f .to in omega arith }
+        ; reach = f .reach
+        ; above = λ k l e. let h = b .above k l e in let h′ = f .from in omega arith
+        ; below = λ k l e. let h = b .below k l e in let h′ = f .to in omega arith
+        }
 
   pub spare-free : Spare kind n p pointer a → Free kind g a
   spare-free s =
-      record {
-        from = b .least a (s .inside .from) (s .above);
-        to = let h = b .greatest (a + 1) (let h = s .inside .to in omega arith) (λ k l e. let h = s .below k l e in omega arith) in omega arith;
-        reach = s .reach;
-      }
+      record
+        { from = b .least a (s .inside .from) (s .above)
+        ; to = let h = b .greatest (a + 1) (let h = s .inside .to in omega arith) (λ k l e. let h = s .below k l e in omega arith) in omega arith
+        ; reach = s .reach
+        }
 
 -- a walk over the spares of a kind goes over the free cells, and over all of them
 pub walked-free : (kind : Kind) (g : Gap) (j : ℕ) → j < sparesOf kind g → Free kind g (nth (wayOf kind) (nextOf kind g) j)
-unfolding sparesOf wayOf nextOf nth
+unfolding sparesOf wayOf nextOf
 walked-free High g j h = record { from = omega arith; to = omega arith; reach = λ e. omega arith }
 walked-free Low g j h = record { from = omega arith; to = omega arith; reach = λ e. let z : _≡_ {A = ℕ} 0 1 = cc in absurd (omega arith) }
 
 pub free-walked : (kind : Kind) (g : Gap) (a : ℕ) → Free kind g a → (j : ℕ) × (j < sparesOf kind g) × (nth (wayOf kind) (nextOf kind g) j ≡ a)
-unfolding sparesOf wayOf nextOf nth
+unfolding sparesOf wayOf nextOf
 free-walked High g a f = let h = f .from in let h′ = f .to in let h″ = f .reach refl in (a - g .high, omega arith, omega arith)
 free-walked Low g a f = let h = f .from in let h′ = f .to in (g .low - 1 - a, omega arith, omega arith)
+
+-- a gap is all that its properties say
+pub between-unique : {n : ℕ} {p : Places} {pointer : ℕ → ℕ} {g h : Gap} → Between n p pointer g → Between n p pointer h → (g .high ≡ h .high) × (g .low ≡ h .low)
+between-unique {n} {p} {pointer} {g} {h} b c =
+    let x = b .least (h .high) (c .start) (c .above) in
+    let y = c .least (g .high) (b .start) (b .above) in
+    let z = b .greatest (h .low) (c .end) (c .below) in
+    let w = c .greatest (g .low) (b .end) (b .below) in
+    (omega arith, omega arith)
+
+-- slot k's pointer moved to a free cell narrows the gap by it
+module _ {n k a : ℕ} {p : Places} {f : ℕ → ℕ} {g : Gap} (h : ℕ → ℕ) (b : Between n p f g) (l : k < n) (free : Free (kindOf k) g a) (at : h k ≡ a)
+    (others : (j : ℕ) → j < n → (j ≡ k → ⊥) → h j ≡ f j) where
+  moved-high : kindOf k ≡ High → Between n p h (gap (max (g .high) (a + 1)) (g .low))
+  moved-high kind =
+      let from = free .from in
+      let start = b .start in
+      record
+        { start = omega arith
+        ; end = b .end
+        ; above = λ j m e. above j m e (ℕ-discrete j k)
+        ; below = λ j m e. rw (others j m (λ q. let z : _≡_ {A = ℕ} 0 1 = cc in omega arith)) (b .below j m e)
+        ; least = λ c m bound. let x = bound k l kind in omega arith
+        ; greatest = λ c m bound. b .greatest c m (λ j o e. rw (← others j o (λ q. let z : _≡_ {A = ℕ} 0 1 = cc in omega arith)) (bound j o e))
+        }
+    where
+      above : (j : ℕ) → j < n → kindOf j ≡ High → Dec (j ≡ k) → h j < max (g .high) (a + 1)
+      above j m e (yes q) = rw (q, at) (omega arith)
+      above j m e (no d) = let x = b .above j m e in rw (others j m d) (omega arith)
+
+  moved-low : kindOf k ≡ Low → Between n p h (gap (g .high) (min (g .low) a))
+  moved-low kind =
+      let to = free .to in
+      let end = b .end in
+      record
+        { start = b .start
+        ; end = omega arith
+        ; above = λ j m e. rw (others j m (λ q. let z : _≡_ {A = ℕ} 0 1 = cc in omega arith)) (b .above j m e)
+        ; below = λ j m e. below j m e (ℕ-discrete j k)
+        ; least = λ c m bound. b .least c m (λ j o e. rw (← others j o (λ q. let z : _≡_ {A = ℕ} 0 1 = cc in omega arith)) (bound j o e))
+        ; greatest = λ c m bound. let x = bound k l kind in omega arith
+        }
+    where
+      below : (j : ℕ) → j < n → kindOf j ≡ Low → Dec (j ≡ k) → min (g .low) a ≤ h j
+      below j m e (yes q) = rw (q, at) (omega arith)
+      below j m e (no d) = let x = b .below j m e in rw (others j m d) (omega arith)
+
+  pub between-moved : Between n p h (narrow (kindOf k) a g)
+  between-moved = go (kindOf k) refl
+    where
+      go : (kind : Kind) → kindOf k ≡ kind → Between n p h (narrow (kindOf k) a g)
+      go High e = rw (e, narrow-high a g) (moved-high e)
+      go Low e = rw (e, narrow-low a g) (moved-low e)
+
+-- no pointer is a spare, which lies between those of the two kinds
+pub spare-fresh : {kind : Kind} {n a : ℕ} {p : Places} {f : ℕ → ℕ} → Spare kind n p f a → (j : ℕ) → j < n → f j ≡ a → ⊥
+spare-fresh new j l e = go (kindOf j) refl
+  where
+    go : (kind : Kind) → kindOf j ≡ kind → ⊥
+    go High q = let x = new .above j l q in omega arith
+    go Low q = let x = new .below j l q in omega arith
 
 -- the pointers of the slots below n, with slot k's at a spare
 module _ {n m k a : ℕ} {p : Places} {f : ℕ → ℕ} (h : ℕ → ℕ) (s : Sound n p f) (new : Spare (kindOf k) n p f a) (at : h k ≡ a)
@@ -164,18 +228,10 @@ module _ {n m k a : ℕ} {p : Places} {f : ℕ → ℕ} (h : ℕ → ℕ) (s : S
   joined-reach j l (yes e) kind = rw (e, at) (new .reach (rw e at kind))
   joined-reach j l (no d) kind = let o = others j l d in rw (← o .1) (s .reach j (o .0) kind)
 
-  -- no other pointer is the spare, which lies between those of the two kinds
-  fresh : (j : ℕ) → j < n → f j ≡ a → ⊥
-  fresh j l e = go (kindOf j) refl
-    where
-      go : (kind : Kind) → kindOf j ≡ kind → ⊥
-      go High q = let x = new .above j l q in omega arith
-      go Low q = let x = new .below j l q in omega arith
-
   joined-apart : (i j : ℕ) → i < m → j < m → Dec (i ≡ k) → Dec (j ≡ k) → (i ≡ j → ⊥) → h i ≡ h j → ⊥
   joined-apart i j l l′ (yes e) (yes e′) d q = d (e ∙ sym e′)
-  joined-apart i j l l′ (yes e) (no d′) d q = let o = others j l′ d′ in fresh j (o .0) (o .1 ∙ sym q ∙ ap h e ∙ at)
-  joined-apart i j l l′ (no d′) (yes e) d q = let o = others i l d′ in fresh i (o .0) (o .1 ∙ q ∙ ap h e ∙ at)
+  joined-apart i j l l′ (yes e) (no d′) d q = let o = others j l′ d′ in spare-fresh new j (o .0) (o .1 ∙ sym q ∙ ap h e ∙ at)
+  joined-apart i j l l′ (no d′) (yes e) d q = let o = others i l d′ in spare-fresh new i (o .0) (o .1 ∙ q ∙ ap h e ∙ at)
   joined-apart i j l l′ (no d₁) (no d₂) d q =
       let o₁ = others i l d₁ in
       let o₂ = others j l′ d₂ in
@@ -192,9 +248,13 @@ module _ {n m k a : ℕ} {p : Places} {f : ℕ → ℕ} (h : ℕ → ℕ) (s : S
 
   pub sound-joined : Sound m p h
   sound-joined =
-      record {
-        inside = λ j l. joined-inside j l (ℕ-discrete j k);
-        reach = λ j l. joined-reach j l (ℕ-discrete j k);
-        apart = λ i j l l′. joined-apart i j l l′ (ℕ-discrete i k) (ℕ-discrete j k);
-        order = λ i j l l′. joined-order i j l l′ (ℕ-discrete i k) (ℕ-discrete j k);
-      }
+      record
+        { inside = λ j l. joined-inside j l (ℕ-discrete j k)
+        ; reach = λ j l. joined-reach j l (ℕ-discrete j k)
+        ; apart = λ i j l l′. joined-apart i j l l′ (ℕ-discrete i k) (ℕ-discrete j k)
+        ; order = λ i j l l′. joined-order i j l l′ (ℕ-discrete i k) (ℕ-discrete j k)
+        }
+
+pub gap-more : (k : ℕ) (p : Places) (pointer : ℕ → ℕ) → narrow (kindOf k) (pointer k) (gapTo k p pointer) ≡ gapTo (k + 1) p pointer
+unfolding gapTo
+gap-more k p pointer = rw (add-one k)

@@ -1,28 +1,25 @@
 -- Tests over a range of numbers, turned into facts and back.
---   never                     a test that cannot hold fails
 --   and-true, true-and        both tests hold
 --   or-true                   one of the tests holds
 --   every-all, all-every      the test holds of each number below n
---   every-more                one number more
 --   every-not                 a number of which it does not hold
 --   none-some                 the test holds of no number below n
 --   none-lowest               the test holds of none of the n numbers from k on
 --   tabulate-same             two functions with the same values
+--   never                     a test that cannot hold fails
+--   every-more                one number more
+--   lowest-here, lowest-on, lowest-end  a search from k on
 use Prim.Native.Nat.{ℕ, zero, suc, _+_, _≤_, _<_}
 use mathlib.Core.Path.{_≡_, refl, sym, ap, ap₂, _∙_}
 use mathlib.Core.Bool.{Bool, true, false}
 use mathlib.Core.List.{List, [], _∷_}
 use mathlib.Core.Logic.{_⊎_, inl, inr}
 use native.Mathlib.Decide.{ℕ-discrete}
-use native.Mathlib.Numerals.{add-one}
 use native.Mathlib.Omega.{arith}
 use Rattle.cells.specs.declared.row.Found.{Found}
 use Rattle.cells.specs.declared.row.Found.the-variants.{At, Nowhere}
 use Rattle.counter.specs.Slots.{_and_, _or_, every, some, lowest, tabulate}
-
-pub never : (b : Bool) → (b ≡ true → ⊥) → b ≡ false
-never true h = absurd (h refl)
-never false h = refl
+use native.Mathlib.Numerals.{add-one}
 
 pub and-true : (a b : Bool) → a and b ≡ true → (a ≡ true) × (b ≡ true)
 and-true true b h = (refl, h)
@@ -42,7 +39,6 @@ every-all (suc n) test h k l = go (every-all n test (both .0) k) (ℕ-discrete k
   where
     both : (every n test ≡ true) × (test n ≡ true)
     both = and-true (every n test) (test n) h
-
     go : (k < n → test k ≡ true) → Dec (k ≡ n) → test k ≡ true
     go below (yes e) = rw e (both .1)
     go below (no d) = below (omega arith)
@@ -51,10 +47,6 @@ pub all-every : (n : ℕ) (test : ℕ → Bool) → ((k : ℕ) → k < n → tes
 unfolding every
 all-every zero test h = refl
 all-every (suc n) test h = true-and (every n test) (test n) (all-every n test (λ k l. h k (omega arith))) (h n (omega arith))
-
-pub every-more : (n : ℕ) (test : ℕ → Bool) → every n test ≡ true → test n ≡ true → every (n + 1) test ≡ true
-unfolding every
-every-more n test below here = rw (add-one n) (true-and (every n test) (test n) below here)
 
 pub every-not : (n : ℕ) (test : ℕ → Bool) (k : ℕ) → k < n → test k ≡ false → every n test ≡ false
 every-not n test k l f = go (every n test) refl
@@ -78,3 +70,11 @@ unfolding tabulate
 tabulate-same zero k f g h = refl
 tabulate-same (suc n) k f g h =
     ap₂ _∷_ (h k (omega arith) (omega arith)) (tabulate-same n (k + 1) f g (λ j l u. h j (omega arith) (omega arith)))
+
+pub never : (b : Bool) → (b ≡ true → ⊥) → b ≡ false
+never true h = absurd (h refl)
+never false h = refl
+
+pub every-more : (n : ℕ) (test : ℕ → Bool) → every n test ≡ true → test n ≡ true → every (n + 1) test ≡ true
+unfolding every
+every-more n test below here = rw (add-one n) (true-and (every n test) (test n) below here)

@@ -18,7 +18,7 @@ use Rattle.counter.specs.Spares.{gapTo, mayTry}
 use Rattle.counter.proofs.RangeTests.{every-all, all-every, never}
 use Rattle.counter.proofs.SoundPointers.{Sound, test-sound, sound-test, below-apart}
 use Rattle.counter.proofs.Gaps.{Between, between-gap}
-use Rattle.counter.proofs.Tries.{Tried, tried-facts, facts-tried}
+use Rattle.counter.proofs.MayTry.{Tried, tried-facts, facts-tried}
 
 unlike : _≡_ {A = Kind} High Low → ⊥
 unlike e = let z : _≡_ {A = ℕ} 0 1 = cc in omega arith

@@ -2,10 +2,10 @@
 --   Inside                    an address is in the area
 --   Sound                     the pointers of the slots below n are sound
 --   test-sound, sound-test    the test turned into it and back
---   below-apart               different from every earlier one is different from every other
 --   sound-none                of no slots
 --   sound-same                of another function with the same values
 --   sound-fewer               of fewer slots
+--   below-apart               different from every earlier one is different from every other
 use Prim.Native.Nat.{ℕ, zero, suc, _+_, _*_, _≤_, _<_}
 use mathlib.Core.Path.{_≡_, refl, sym, ap, _∙_}
 use mathlib.Core.Bool.{Bool, true, false, not}
@@ -78,12 +78,12 @@ module _ (copies : ℕ) (p : Places) (pointer : ℕ → ℕ) where
       let h₁ = and-true (every (slots copies) (λ k. inArea p (pointer k))) _ h in
       let h₂ = and-true (every (slots copies) (λ k. reachable (kindOf k) (pointer k))) _ (h₁ .1) in
       let h₃ = and-true (every (slots copies) (λ j. every j (λ i. not (eqb (pointer i) (pointer j))))) _ (h₂ .1) in
-      record {
-        inside = λ k l. test-inside p (pointer k) (every-all _ _ (h₁ .0) k l);
-        reach = λ k l. test-reach (kindOf k) (pointer k) (every-all _ _ (h₂ .0) k l);
-        apart = λ i j l m d e. below-apart {pointer = pointer} (λ i j l m. eqb-false _ _ (not-true _ (every-all _ _ (every-all _ _ (h₃ .0) j m) i l))) i j l m d e;
-        order = λ i j l m. test-order (kindOf i) (kindOf j) (pointer i) (pointer j) (every-all _ _ (every-all _ _ (h₃ .1) i l) j m);
-      }
+      record
+        { inside = λ k l. test-inside p (pointer k) (every-all _ _ (h₁ .0) k l)
+        ; reach = λ k l. test-reach (kindOf k) (pointer k) (every-all _ _ (h₂ .0) k l)
+        ; apart = λ i j l m d e. below-apart {pointer = pointer} (λ i j l m. eqb-false _ _ (not-true _ (every-all _ _ (every-all _ _ (h₃ .0) j m) i l))) i j l m d e
+        ; order = λ i j l m. test-order (kindOf i) (kindOf j) (pointer i) (pointer j) (every-all _ _ (every-all _ _ (h₃ .1) i l) j m)
+        }
 
   pub sound-test : Sound (slots copies) p pointer → sound copies p pointer ≡ true
   unfolding sound
@@ -95,27 +95,27 @@ module _ (copies : ℕ) (p : Places) (pointer : ℕ → ℕ) where
 
 pub sound-none : (p : Places) (pointer : ℕ → ℕ) → Sound 0 p pointer
 sound-none p pointer =
-    record {
-      inside = λ k l. absurd (omega arith);
-      reach = λ k l e. absurd (omega arith);
-      apart = λ i j l m d e. omega arith;
-      order = λ i j l m e f. absurd (omega arith);
-    }
+    record
+      { inside = λ k l. absurd (omega arith)
+      ; reach = λ k l e. absurd (omega arith)
+      ; apart = λ i j l m d e. omega arith
+      ; order = λ i j l m e f. absurd (omega arith)
+      }
 
 pub sound-same : {n : ℕ} {p : Places} {f : ℕ → ℕ} (g : ℕ → ℕ) → ((k : ℕ) → k < n → f k ≡ g k) → Sound n p f → Sound n p g
 sound-same {n} {p} {f} g same s =
-    record {
-      inside = λ k l. rw (← same k l) (s .inside k l);
-      reach = λ k l e. rw (← same k l) (s .reach k l e);
-      apart = λ i j l m d e. s .apart i j l m d (same i l ∙ e ∙ sym (same j m));
-      order = λ i j l m e e′. rw (← same i l, ← same j m) (s .order i j l m e e′);
-    }
+    record
+      { inside = λ k l. rw (← same k l) (s .inside k l)
+      ; reach = λ k l e. rw (← same k l) (s .reach k l e)
+      ; apart = λ i j l m d e. s .apart i j l m d (same i l ∙ e ∙ sym (same j m))
+      ; order = λ i j l m e e′. rw (← same i l, ← same j m) (s .order i j l m e e′)
+      }
 
 pub sound-fewer : {m n : ℕ} {p : Places} {f : ℕ → ℕ} → m ≤ n → Sound n p f → Sound m p f
 sound-fewer h s =
-    record {
-      inside = λ k l. s .inside k (omega arith);
-      reach = λ k l e. s .reach k (omega arith) e;
-      apart = λ i j l m d e. s .apart i j (omega arith) (omega arith) d e;
-      order = λ i j l m e e′. s .order i j (omega arith) (omega arith) e e′;
-    }
+    record
+      { inside = λ k l. s .inside k (omega arith)
+      ; reach = λ k l e. s .reach k (omega arith) e
+      ; apart = λ i j l m d e. s .apart i j (omega arith) (omega arith) d e
+      ; order = λ i j l m e e′. s .order i j (omega arith) (omega arith) e e′
+      }

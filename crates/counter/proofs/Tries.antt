@@ -1,83 +1,112 @@
--- The test whether a spare may be tried, by the tests that it is made of.
---   try-before, try-past      outside the area it may not
---   try-low                   inside, a Low one is above every High pointer
---   try-far, try-high         inside, a High one is at most 255 and below every Low pointer
---   Tried                     what a test that holds says
---   tried-facts, facts-tried  the test turned into it and back
-use Prim.Native.Nat.{ℕ, _≤_, _<_}
-use mathlib.Core.Path.{_≡_, refl, _∙_}
+-- Spares tried: what it keeps, what it changes, what it costs.
+--   room                      the cells between the pointers of the two kinds
+--   Missing                   no spare holds: each was asked and refuses, and the chip is as it was
+--   Landing                   a spare holds: the chip is that one put from the start
+--   Trying, TryLaws, try-laws
+use Prim.Native.Nat.{ℕ, _+_, _-_, _*_, _≤_, _<_, min, max}
+use mathlib.Core.Path.{_≡_, refl, sym, ap, _∙_}
 use mathlib.Core.Bool.{Bool, true, false}
+use mathlib.Core.List.{List}
 use native.Mathlib.Omega.{arith}
-use lib.Dec.{leb, ltb}
-use borrow.Author.Tests.{le-leb, lt-leb, lt-ltb, leb-true, ltb-true}
+use lib.ListN.{length, length-append}
+use Rattle.cells.specs.declared.row.Way.{Way}
+use Rattle.cells.specs.declared.row.Way.the-variants.{Up, Down}
+use Rattle.cells.specs.declared.row.Found.{Found}
+use Rattle.cells.specs.declared.row.Found.the-variants.{At, Nowhere}
+use Rattle.cells.specs.Chip.{Chip, cellAt, Paired, Kept}
+use Rattle.cells.specs.Run.{Run}
+use Rattle.cells.specs.Log.{Within}
+use Rattle.cells.specs.Put.{putAt}
+use Rattle.cells.specs.Row.{walk, nth, InRow, asks}
+use Rattle.cells.proofs.Logs.{within-wider}
+use Rattle.cells.proofs.Puts.{Refuses, PutLaws, put-laws}
+use Rattle.cells.proofs.Walks.{Missed, Hit, Walking, Walking.missed, Walking.hit, WalkLaws, walk-laws, asks-length}
 use Rattle.counter.specs.declared.map.Kind.{Kind}
 use Rattle.counter.specs.declared.map.Kind.the-variants.{High, Low}
-use Rattle.counter.specs.declared.places.Places.{Places}
 use Rattle.counter.specs.declared.spares.Gap.{Gap}
-use Rattle.counter.specs.Spares.{mayTry}
-use Rattle.counter.proofs.RangeTests.{and-true}
+use Rattle.counter.specs.Slots.{kindOf}
+use Rattle.counter.specs.Spares.{gap, narrow, wayOf, nextOf, sparesOf}
+use Rattle.counter.specs.Store.{trySpares}
+use Rattle.counter.proofs.Gaps.{Free, walked-free, free-walked}
 
-pub try-before : (p : Places) (kind : Kind) (g : Gap) (a : ℕ) → a < p .start → mayTry p kind g a ≡ false
-unfolding mayTry
-try-before p High g a h = rw (lt-leb _ _ h)
-try-before p Low g a h = rw (lt-leb _ _ h)
+abbrev pub room : Gap → ℕ
+room g = g .low - g .high
 
-module _ (p : Places) (g : Gap) (a : ℕ) (from : p .start ≤ a) where
-  pub try-past : (kind : Kind) → p .end < a → mayTry p kind g a ≡ false
-  unfolding mayTry
-  try-past High h = rw (le-leb _ _ from, lt-leb _ _ h)
-  try-past Low h = rw (le-leb _ _ from, lt-leb _ _ h)
+pub record Missing (k : ℕ) (g : Gap) (b : ℕ) (s : Chip) : Type 0 where
+  pub nowhere : trySpares k g b s .answer ≡ Nowhere
+  pub same : trySpares k g b s .after ≡ s
+  pub refused : (a : ℕ) → Free (kindOf k) g a → Refuses a b s
+  pub cost : length (trySpares k g b s .log) ≤ room g
 
-  module _ (to : a ≤ p .end) where
-    pub try-low : mayTry p Low g a ≡ leb (g .high) a
-    unfolding mayTry
-    try-low = rw (le-leb _ _ from, le-leb _ _ to)
+pub record Landing (k : ℕ) (g : Gap) (b : ℕ) (s : Chip) : Type 0 where
+  pub place : ℕ
+  pub here : trySpares k g b s .answer ≡ At place
+  pub free : Free (kindOf k) g place
+  pub kept : Kept (λ c. c ≡ place) s (trySpares k g b s .after)
+  pub held : cellAt (trySpares k g b s .after) place ≡ b
+  pub cost : length (trySpares k g b s .log) + room (narrow (kindOf k) place g) ≤ room g
 
-    pub try-far : 255 < a → mayTry p High g a ≡ false
-    unfolding mayTry
-    try-far h = rw (le-leb _ _ from, le-leb _ _ to, lt-leb _ _ h)
+pub data Trying (k : ℕ) (g : Gap) (b : ℕ) (s : Chip) : Type 0 where
+  missing : Missing k g b s → Trying k g b s
+  landing : Landing k g b s → Trying k g b s
 
-    pub try-high : a ≤ 255 → mayTry p High g a ≡ ltb a (g .low)
-    unfolding mayTry
-    try-high h = rw (le-leb _ _ from, le-leb _ _ to, le-leb _ _ h)
+pub record TryLaws (k : ℕ) (g : Gap) (b : ℕ) (s : Chip) : Type 0 where
+  pub within : Within (Free (kindOf k) g) s (trySpares k g b s)
+  pub trying : Trying k g b s
 
-pub record Tried (p : Places) (kind : Kind) (g : Gap) (a : ℕ) : Type 0 where
-  pub from : p .start ≤ a
-  pub to : a ≤ p .end
-  pub reach : kind ≡ High → a ≤ 255
-  pub below : kind ≡ High → a < g .low
-  pub above : kind ≡ Low → g .high ≤ a
+-- the cells of the walk are the free ones
+row-free : (kind : Kind) (g : Gap) (c : ℕ) → InRow (sparesOf kind g) (wayOf kind) (nextOf kind g) c → Free kind g c
+unfolding sparesOf wayOf nextOf
+row-free High g c i = let h = i .0 in let h′ = i .1 in record { from = omega arith; to = omega arith; reach = λ e. omega arith }
+row-free Low g c i =
+    let h = i .0 in
+    let h′ = i .1 in
+    record { from = omega arith; to = omega arith; reach = λ e. let z : _≡_ {A = ℕ} 0 1 = cc in absurd (omega arith) }
 
-apart : {A : Type 0} → _≡_ {A = Kind} High Low → A
-apart e = let z : _≡_ {A = ℕ} 0 1 = cc in absurd (omega arith)
+-- the spares are no more than the room
+spares-room : (kind : Kind) (g : Gap) → sparesOf kind g ≤ room g
+unfolding sparesOf
+spares-room High g = omega arith
+spares-room Low g = omega arith
 
-apart′ : {A : Type 0} → _≡_ {A = Kind} Low High → A
-apart′ e = let z : _≡_ {A = ℕ} 0 1 = cc in absurd (omega arith)
+-- what the j-th spare leaves when it is taken
+room-left : (kind : Kind) (g : Gap) (j : ℕ) → j < sparesOf kind g → j + 1 + room (narrow kind (nth (wayOf kind) (nextOf kind g) j) g) ≤ room g
+unfolding sparesOf wayOf nextOf narrow
+room-left High g j h = omega arith
+room-left Low g j h = omega arith
 
-pub tried-facts : (p : Places) (kind : Kind) (g : Gap) (a : ℕ) → mayTry p kind g a ≡ true → Tried p kind g a
-unfolding mayTry
-tried-facts p High g a h =
-    let area = and-true _ _ h in
-    let inside = and-true (leb (p .start) a) _ (area .0) in
-    let reach = and-true (leb a 255) _ (area .1) in
-    record {
-      from = leb-true _ _ (inside .0);
-      to = leb-true _ _ (inside .1);
-      reach = λ e. leb-true _ _ (reach .0);
-      below = λ e. ltb-true _ _ (reach .1);
-      above = apart;
-    }
-tried-facts p Low g a h =
-    let area = and-true _ _ h in
-    let inside = and-true (leb (p .start) a) _ (area .0) in
-    record {
-      from = leb-true _ _ (inside .0);
-      to = leb-true _ _ (inside .1);
-      reach = apart′;
-      below = apart′;
-      above = λ e. leb-true _ _ (area .1);
-    }
+module _ (k : ℕ) (g : Gap) (b : ℕ) (s : Chip) (paired : Paired s) where
+  landed : Hit (sparesOf (kindOf k) g) (wayOf (kindOf k)) (nextOf (kindOf k) g) b s → Landing k g b s
+  unfolding trySpares
+  landed m =
+      let a = nth (wayOf (kindOf k)) (nextOf (kindOf k) g) (m .index) in
+      let put = put-laws a b s paired in
+      record
+        { place = a
+        ; here = ap (λ (r : Run Found). r .answer) (m .comes)
+        ; free = walked-free (kindOf k) g (m .index) (m .inside)
+        ; kept = rw (m .comes) (put .kept)
+        ; held = rw (m .comes) (put .held (m .held))
+        ; cost = let h = room-left (kindOf k) g (m .index) (m .inside) in let c = put .cost in rw (m .comes, length-append, asks-length) (omega arith)
+        }
 
-pub facts-tried : (p : Places) (kind : Kind) (g : Gap) (a : ℕ) → Tried p kind g a → mayTry p kind g a ≡ true
-facts-tried p High g a t = try-high p g a (t .from) (t .to) (t .reach refl) ∙ lt-ltb _ _ (t .below refl)
-facts-tried p Low g a t = try-low p g a (t .from) (t .to) ∙ le-leb _ _ (t .above refl)
+  missed-all : Missed (sparesOf (kindOf k) g) (wayOf (kindOf k)) (nextOf (kindOf k) g) b s → Missing k g b s
+  unfolding trySpares
+  missed-all m =
+      record
+        { nowhere = ap (λ (r : Run Found). r .answer) (m .comes)
+        ; same = ap (λ (r : Run Found). r .after) (m .comes)
+        ; refused = λ a f. let j = free-walked (kindOf k) g a f in rw (j .2) at (m .refused (j .0) (j .1))
+        ; cost = let h = spares-room (kindOf k) g in rw (m .comes, asks-length) h
+        }
+
+  try-in : Within (Free (kindOf k) g) s (trySpares k g b s)
+  unfolding trySpares
+  try-in = within-wider (row-free (kindOf k) g) (walk-laws (sparesOf (kindOf k) g) (wayOf (kindOf k)) (nextOf (kindOf k) g) b s paired .within)
+
+  pub try-laws : TryLaws k g b s
+  try-laws = record { within = try-in; trying = go (walk-laws (sparesOf (kindOf k) g) (wayOf (kindOf k)) (nextOf (kindOf k) g) b s paired .walking) }
+    where
+      go : Walking (sparesOf (kindOf k) g) (wayOf (kindOf k)) (nextOf (kindOf k) g) b s → Trying k g b s
+      go (missed m) = missing (missed-all m)
+      go (hit m) = landing (landed m)

@@ -15,7 +15,7 @@ use Rattle.counter.specs.declared.verdict.Verdict.{Verdict}
 use Rattle.counter.specs.declared.verdict.Verdict.the-variants.{Good, Refused}
 use Rattle.counter.specs.declared.verdict.Refusal.the-variants.{BadLength, BadPlaces, NoMark, UnsoundMap, BadCopy, LastCount}
 use Rattle.counter.specs.Slots.{two, _and_}
-use Rattle.counter.specs.Places.{lengthGood, placesGood}
+use Rattle.counter.specs.Places.{lengthGood, placesGood, livesGood, fitted}
 use Rattle.counter.specs.Map.{mapIn, marked, pointerOf, sound, partAt}
 use Rattle.counter.specs.Verdict.{Outcome, outcome, outcomeOf, refusalOf, answerOf, onGood, _endingIn_, _andThen_}
 use Rattle.counter.specs.Reading.{unless, verdictOf}
@@ -26,21 +26,13 @@ use Rattle.counter.specs.Opening.{firstOpening}
 abbrev pub lastCount : ℕ
 lastCount = 4294967295
 
--- lives as many as the cells
-unfoldable pub livesGood : Chip → Bool
-livesGood s = eqb (length (s .lives)) (length (s .cells))
-
 -- what a chip lent with its lives reads as
 unfoldable pub chipVerdict : ℕ → Places → Chip → Verdict
 chipVerdict copies p s = unless (livesGood s) BadLength (verdictOf copies p (s .cells))
 
 -- refusals 1 and 2 do not hold, and the mark is not there
 unfoldable pub unopened : ℕ → Places → Chip → Bool
-unopened copies p s =
-    livesGood s
-    and lengthGood copies (length (s .cells))
-    and placesGood copies (length (s .cells)) p
-    and not (marked (mapIn copies p (s .cells)))
+unopened copies p s = fitted copies p s and not (marked (mapIn copies p (s .cells)))
 
 -- Open, both mark bytes right: read c, store c. Open, else: a first opening, whose count is 0.
 unfoldable pub openRun : ℕ → Places → Chip → Run Verdict

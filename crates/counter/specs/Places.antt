@@ -1,7 +1,9 @@
 -- The image's length and the place settings (document 01, "The chip as lent"). Sums are whole-number sums.
 use Prim.Native.Nat.{ℕ, _+_, _-_, _*_}
 use mathlib.Core.Bool.{Bool}
-use lib.Dec.{leb, ltb}
+use lib.Dec.{leb, ltb, eqb}
+use lib.ListN.{length}
+use Rattle.cells.specs.Chip.{Chip}
 use Rattle.counter.specs.declared.places.Places.{Places}
 use Rattle.counter.specs.Slots.{slots, _and_, _or_}
 
@@ -27,3 +29,11 @@ placesGood copies n p =
     and leb (p .start) (256 - 5 * copies)
     and leb (p .start + slots copies) (p .end + 1)
     and (leb (p .map + mapCells copies) (p .start) or ltb (p .end) (p .map))
+
+-- lives as many as the cells
+unfoldable pub livesGood : Chip → Bool
+livesGood s = eqb (length (s .lives)) (length (s .cells))
+
+-- a chip lent with its lives, of which refusals 1 and 2 do not hold
+unfoldable pub fitted : ℕ → Places → Chip → Bool
+fitted copies p s = livesGood s and lengthGood copies (length (s .cells)) and placesGood copies (length (s .cells)) p

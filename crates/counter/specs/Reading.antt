@@ -25,27 +25,24 @@ use Rattle.counter.specs.Map.{mapIn, marked, pointerOf, sound}
 abbrev pub dataAt : List ℕ → List ℕ → ℕ → ℕ
 dataAt cells map k = getD cells (pointerOf map k) 0
 
--- what nibble n of a copy, counted from 0, reads as, given the byte of each slot
-abbrev pub readingAt : (ℕ → ℕ) → ℕ → ℕ → Reading
-readingAt byte copy n = readingOf (byte (8 * copy + n))
-
--- nibble n of the lowest-numbered copy that has one, among so many copies from one on
-unfoldable pub lent : ℕ → ℕ → (ℕ → ℕ) → ℕ → ℕ
-lent zero copy byte n = 0
-lent (suc left) copy byte n =
-    let other = lent left (copy + 1) byte n in
-    let own = readingAt byte copy n in
+-- nibble n of the lowest-numbered copy that has one, among so many copies from one on, given what each slot
+-- reads as; copies are counted from 0
+unfoldable pub lent : ℕ → ℕ → (ℕ → Reading) → ℕ → ℕ
+lent zero copy reading n = 0
+lent (suc left) copy reading n =
+    let other = lent left (copy + 1) reading n in
+    let own = reading (8 * copy + n) in
     pick (isLost own) other (nibbleRead own)
 
 -- nibble n of a copy; a lost nibble takes the other copy's
-unfoldable pub nibbleIn : ℕ → (ℕ → ℕ) → ℕ → ℕ → ℕ
-nibbleIn copies byte copy n =
-    let own = readingAt byte copy n in
-    pick (isLost own) (lent copies 0 byte n) (nibbleRead own)
+unfoldable pub nibbleIn : ℕ → (ℕ → Reading) → ℕ → ℕ → ℕ
+nibbleIn copies reading copy n =
+    let own = reading (8 * copy + n) in
+    pick (isLost own) (lent copies 0 reading n) (nibbleRead own)
 
 -- the count of a copy: its Gray word turned back
-unfoldable pub countIn : ℕ → (ℕ → ℕ) → ℕ → ℕ
-countIn copies byte copy = countOf (wordOf (tabulate 8 0 (nibbleIn copies byte copy)))
+unfoldable pub countIn : ℕ → (ℕ → Reading) → ℕ → ℕ
+countIn copies reading copy = countOf (wordOf (tabulate 8 0 (nibbleIn copies reading copy)))
 
 -- lag 0 or lag 1
 unfoldable pub close : ℤ → Bool
@@ -61,8 +58,8 @@ abbrev pub twofoldAt : ℕ → (ℕ → ℕ) → ℕ → Bool
 twofoldAt copies byte n = some copies (λ copy. twofold (byte (8 * copy + n)))
 
 -- nibble n is lost in every copy
-abbrev pub lostAt : ℕ → (ℕ → ℕ) → ℕ → Bool
-lostAt copies byte n = every copies (λ copy. isLost (readingAt byte copy n))
+abbrev pub lostAt : ℕ → (ℕ → Reading) → ℕ → Bool
+lostAt copies reading n = every copies (λ copy. isLost (reading (8 * copy + n)))
 
 -- refused, unless the test holds
 abbrev pub unless : Bool → Refusal → Verdict → Verdict
@@ -74,12 +71,13 @@ abbrev pub onFound : Found → (ℕ → Refusal) → Verdict → Verdict
 onFound (At n) why rest = Refused (why n)
 onFound Nowhere why rest = rest
 
--- what the bytes of the slots read as: refusals 10, 5 and 6, or the count
+-- what the bytes of the slots come to: refusals 10, 5 and 6, or the count
 unfoldable pub weigh : ℕ → (ℕ → ℕ) → Verdict
 weigh copies byte =
+    let reading : ℕ → Reading = λ k. readingOf (byte k) in
     onFound (lowest 8 0 (twofoldAt copies byte)) TwoCodes
-    (onFound (lowest 8 0 (lostAt copies byte)) LostNibble
-    (decide (countIn copies byte 0) (countIn copies byte (copies - 1))))
+    (onFound (lowest 8 0 (lostAt copies reading)) LostNibble
+    (decide (countIn copies reading 0) (countIn copies reading (copies - 1))))
 
 -- what a marked image reads as: refusal 4, or what the data read as
 unfoldable pub examine : ℕ → Places → List ℕ → Verdict

@@ -6,6 +6,8 @@ ghost use lib.ListN.{length, getD};
 ghost use Rattle.counter.specs.Slots.{kindOf};
 ghost use Rattle.counter.specs.Map.{marked, offsetOf, pointerOf};
 
+use code::table::wide;
+
 // High cells hold nibbles 3 to 7, Low cells nibbles 0 to 2.
 pub enum Kind {
     High,
@@ -37,13 +39,6 @@ impl Map {
     {
         Map { place }
     }
-}
-
-// A byte as a number.
-fn wide(byte: u8) -> usize
-    ensures { λ r. ⌜ (r ≡ byte) × (r < 256) ⌝ }
-{
-    byte as usize
 }
 
 // The kind of a slot's cells.

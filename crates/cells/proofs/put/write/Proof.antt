@@ -1,6 +1,7 @@
+-- `write` meets its contract: a cell with life left is set and loses one, a worn cell stays.
 use borrow.Author.Tests.{lt-ltb, le-ltb}
-use Rattle.cells.specs.Chip.{writeAt}
 use borrow.Author.Needs.{needs}
+use Rattle.cells.specs.Chip.{writeAt}
 use Rattle.cells.proofs.put.write.Statement.{statement}
 use Rattle.cells.proofs.put.write.Tie as tie
 

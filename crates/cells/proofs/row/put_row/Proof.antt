@@ -1,3 +1,5 @@
+-- `put_row` meets its contract. Whenever the loop's test is reached, the row comes to what is left of it, behind
+-- the writes asked so far, at most one a byte. The measure is the number of bytes left.
 use Prim.Native.Nat.{_-_, _≤_}
 use mathlib.Core.Path.{_≡_, refl, sym, ap, _∙_}
 use native.Mathlib.Omega.{arith}
@@ -8,8 +10,8 @@ use Rattle.cells.specs.Chip.{chip}
 use Rattle.cells.specs.Run.{view, plus}
 use Rattle.cells.specs.Row.{putRow}
 use Rattle.cells.proofs.Views.{plus-plus}
-use Rattle.cells.proofs.Puts.{said-cost}
-use Rattle.cells.proofs.Rows.{leftRow, row-all, row-none, row-held, row-failed}
+use Rattle.cells.proofs.Puts.{put-few}
+use Rattle.cells.proofs.Rows.{rowLeft, row-left-all, row-left-none, row-left-held, row-left-failed}
 use Rattle.cells.proofs.row.put_row.Statement.{statement}
 use Rattle.cells.proofs.row.put_row.Tie as tie
 
@@ -20,14 +22,14 @@ Inv-loop image₀ lives₀ at bytes writes₀ i₀ image lives writes i =
       few : writes ≤ i;
       cells-kept : length image ≡ length image₀;
       lives-kept : length lives ≡ length lives₀;
-      rest : view (putRow bytes at (chip image₀ lives₀)) ≡ plus writes 0 (view (leftRow bytes at i (chip image lives)));
+      rest : view (putRow bytes at (chip image₀ lives₀)) ≡ plus writes 0 (view (rowLeft bytes at i (chip image lives)));
     }
 
 abbrev μ-loop : tie.MeasureT-loop
 μ-loop image₀ lives₀ at bytes writes₀ i₀ image lives writes i = length bytes - i
 
 loop-holds : tie.Need-loop-holds Inv-loop μ-loop
-loop-holds c = record { most = omega arith; few = omega arith; cells-kept = refl; lives-kept = refl; rest = row-all _ _ _ }
+loop-holds c = record { most = omega arith; few = omega arith; cells-kept = refl; lives-kept = refl; rest = row-left-all _ _ _ }
 
 add-put : tie.Need-add-put Inv-loop μ-loop
 add-put c = omega arith
@@ -39,7 +41,7 @@ put-requires : tie.Need-put-requires Inv-loop μ-loop
 put-requires c κs = omega arith
 
 add-writes : tie.Need-add-writes Inv-loop μ-loop
-add-writes c = omega (arith, said-cost _ _ _ _ (c .before .before .before .before .before .put .ensures))
+add-writes c = omega (arith, put-few _ _ _ (c .before .before .before .before .before .put .ensures))
 
 add-t16 : tie.Need-add-t16 Inv-loop μ-loop
 add-t16 c = omega arith
@@ -52,9 +54,11 @@ same-length-2 c = search needs
 
 returns : tie.Need-returns Inv-loop μ-loop
 returns c =
+    let call = c .before .before .before .before .before .before .before in
+    let test = call .before .before .before .before in
     sym
-    (c .before .before .before .before .before .before .before .before .before .before .before .before .loop .inv .rest
-    ∙ ap (plus _ _) (row-failed _ _ _ _ (c .before .before .before .before .before .before .before .before .before .before .before .loop-test .taken) (c .before .before .before .before .before .before .before .put .ensures) (not-true _ (c .if1 .taken))))
+    (test .before .loop .inv .rest
+    ∙ ap (plus _ _) (row-left-failed _ _ _ _ (test .loop-test .taken) (call .put .ensures) (not-true _ (c .if1 .taken))))
 
 add-i : tie.Need-add-i Inv-loop μ-loop
 add-i c = omega arith
@@ -64,14 +68,16 @@ loop-less c = omega arith
 
 loop-again : tie.Need-loop-again Inv-loop μ-loop
 loop-again c =
+    let call = c .before .before .before .before .before .before .before in
+    let test = call .before .before .before .before in
     record {
       most = omega arith;
-      few = omega (arith, said-cost _ _ _ _ (c .before .before .before .before .before .before .before .put .ensures));
+      few = omega (arith, put-few _ _ _ (call .put .ensures));
       cells-kept = omega arith;
       lives-kept = omega arith;
       rest =
-          c .before .before .before .before .before .before .before .before .before .before .before .before .loop .inv .rest
-          ∙ ap (plus _ _) (row-held _ _ _ _ (c .before .before .before .before .before .before .before .before .before .before .before .loop-test .taken) (c .before .before .before .before .before .before .before .put .ensures) (not-false _ (c .if1 .left)))
+          test .before .loop .inv .rest
+          ∙ ap (plus _ _) (row-left-held _ _ _ _ (test .loop-test .taken) (call .put .ensures) (not-false _ (c .if1 .left)))
           ∙ plus-plus _ _ _ _ _;
     }
 
@@ -82,7 +88,7 @@ same-length-4 : tie.Need-same-length-4 Inv-loop μ-loop
 same-length-4 c = search needs
 
 returns-2 : tie.Need-returns-2 Inv-loop μ-loop
-returns-2 c = sym (c .before .loop .inv .rest ∙ row-none _ _ _ (c .before .loop .i) _ (omega arith))
+returns-2 c = sym (c .before .loop .inv .rest ∙ row-left-none _ _ _ (c .before .loop .i) _ (omega arith))
 
 pub put-row-spec : {M : Type 1} → statement M
 put-row-spec =

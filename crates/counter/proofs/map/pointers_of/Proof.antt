@@ -5,7 +5,7 @@ use borrow.Author.Needs.{needs}
 use native.Mathlib.Omega.{arith}
 use lib.ListN.{length, getD, length-set}
 use Rattle.counter.specs.Map.{pointerOf}
-use Rattle.counter.proofs.Filled.{all-set}
+use Rattle.code.proofs.Filled.{all-set}
 use Rattle.counter.proofs.map.pointers_of.Statement.{statement}
 use Rattle.counter.proofs.map.pointers_of.Tie as tie
 

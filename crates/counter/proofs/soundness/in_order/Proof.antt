@@ -10,7 +10,7 @@ use Rattle.counter.specs.Map.{listed}
 use Rattle.counter.specs.Spares.{narrow, gapTo, mayTry}
 use Rattle.counter.proofs.RangeTests.{every-more, every-not}
 use Rattle.counter.proofs.Gaps.{gap-more}
-use Rattle.counter.proofs.Tries.{tried-facts}
+use Rattle.counter.proofs.MayTry.{tried-facts}
 use Rattle.counter.proofs.soundness.in_order.Statement.{statement}
 use Rattle.counter.proofs.soundness.in_order.Tie as tie
 

@@ -7,7 +7,7 @@ use borrow.Author.Count.{below-more}
 use lib.ListN.{length, getD, set, length-set}
 use lib.Seq.{getD-set-same}
 use Rattle.counter.specs.Map.{listed}
-use Rattle.counter.proofs.Filled.{set-marks}
+use Rattle.code.proofs.Filled.{set-marks}
 use Rattle.counter.proofs.soundness.spread.Statement.{statement}
 use Rattle.counter.proofs.soundness.spread.Tie as tie
 

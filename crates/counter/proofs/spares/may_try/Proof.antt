@@ -3,7 +3,7 @@ use mathlib.Core.Path.{sym, ap, _∙_}
 use Rattle.counter.specs.declared.map.Kind.{Kind}
 use Rattle.counter.specs.Spares.{mayTry}
 use Rattle.counter.proofs.Offsets.{kind-low, kind-high}
-use Rattle.counter.proofs.Tries.{try-before, try-past, try-low, try-far, try-high}
+use Rattle.counter.proofs.MayTry.{try-before, try-past, try-low, try-far, try-high}
 use Rattle.counter.proofs.spares.may_try.Statement.{statement}
 use Rattle.counter.proofs.spares.may_try.Tie as tie
 

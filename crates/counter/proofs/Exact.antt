@@ -1,0 +1,84 @@
+-- A chip that holds a count exactly, and what reading and storing make of it.
+--   Exact                     refusals 1 to 4 do not hold, and every slot's cell is its code of c
+--   exact-stored              after a store of c that is done
+--   exact-opened              after a first opening that is done, at 0
+--   exact-reads, exact-verdict  it reads as c, with lag 0
+--   exact-still               storing c on it asks nothing and changes nothing
+use Prim.Native.Nat.{ℕ, zero, suc, _+_, _*_, _^_, _≤_, _<_}
+use mathlib.Core.Path.{_≡_, refl, sym, ap, _∙_}
+use mathlib.Core.Bool.{Bool, true, false}
+use native.Mathlib.Omega.{arith}
+use lib.IntN.{ℤ, pos}
+use lib.ListN.{length}
+use borrow.Author.Tests.{eq-eqb}
+use Rattle.cells.specs.Chip.{Chip, cellAt, Kept}
+use Rattle.cells.specs.Run.{Run, still}
+use Rattle.cells.proofs.Logs.{within-kept}
+use Rattle.counter.specs.declared.places.Places.{Places}
+use Rattle.counter.specs.declared.verdict.Work.{Work}
+use Rattle.counter.specs.declared.verdict.Work.the-variants.{Done, Stopped}
+use Rattle.counter.specs.declared.verdict.Verdict.{Verdict}
+use Rattle.counter.specs.declared.verdict.Verdict.the-variants.{Good}
+use Rattle.counter.specs.Slots.{slots}
+use Rattle.counter.specs.Map.{mapIn, marked, sound}
+use Rattle.counter.specs.Verdict.{_andThen_}
+use Rattle.counter.specs.Reading.{examine, verdictOf}
+use Rattle.counter.specs.Store.{slotCode, storeSlot, storeFrom, store}
+use Rattle.counter.specs.Opening.{firstOpening}
+use Rattle.counter.specs.Doors.{chipVerdict}
+use Rattle.counter.specs.Places.{livesGood}
+use Rattle.counter.proofs.SoundPointers.{Sound, sound-test}
+use Rattle.counter.proofs.Ready.{pointers, dataOf, Ready, ready-kept}
+use Rattle.counter.proofs.Moves.{slot-there}
+use Rattle.counter.proofs.Stores.{Stored, Stores, store-laws}
+use Rattle.counter.proofs.Openings.{Opened, Opens, opening-laws, zero-code}
+use Rattle.counter.proofs.ReadBack.{weigh-exact}
+
+pub record Exact (copies : ℕ) (p : Places) (c : ℕ) (s : Chip) : Type 0 where
+  pub ready : Ready copies p s
+  pub marks : marked (mapIn copies p (s .cells)) ≡ true
+  pub sound : Sound (slots copies) p (pointers copies p s)
+  pub held : (k : ℕ) → k < slots copies → dataOf copies p s k ≡ slotCode c k
+
+module _ {copies : ℕ} {p : Places} {s : Chip} (ready : Ready copies p s) where
+  pub exact-stored : (c : ℕ) → marked (mapIn copies p (s .cells)) ≡ true → Sound (slots copies) p (pointers copies p s) → store copies p c s .answer ≡ Done → Exact copies p c (store copies p c s .after)
+  exact-stored c marks sound e =
+      let laws = store-laws copies p c s ready sound in
+      let stored = laws .stored e in
+      record
+        { ready = ready-kept ready (within-kept (laws .within))
+        ; marks = laws .mark ∙ marks
+        ; sound = stored .sound
+        ; held = λ k l. stored .held k (omega arith) (omega arith)
+        }
+
+  pub exact-opened : firstOpening copies p s .answer ≡ Done → Exact copies p 0 (firstOpening copies p s .after)
+  exact-opened e =
+      let laws = opening-laws ready in
+      let opened = laws .opened e in
+      record
+        { ready = ready-kept ready (within-kept (laws .within))
+        ; marks = opened .marks
+        ; sound = opened .sound
+        ; held = λ k l. opened .held k l ∙ sym (zero-code k)
+        }
+
+module _ {copies : ℕ} {p : Places} {c : ℕ} {s : Chip} (exact : Exact copies p c s) where
+  pub exact-reads : 1 ≤ copies → c < 2 ^ 32 → verdictOf copies p (s .cells) ≡ Good c (pos 0)
+  unfolding verdictOf examine
+  exact-reads one small =
+      rw (exact .ready .long, exact .ready .good, exact .marks, sound-test copies p (pointers copies p s) (exact .sound))
+      (weigh-exact copies {byte = dataOf copies p s} small (exact .held) one)
+
+  pub exact-verdict : 1 ≤ copies → c < 2 ^ 32 → chipVerdict copies p s ≡ Good c (pos 0)
+  unfolding chipVerdict livesGood
+  exact-verdict one small = rw (eq-eqb _ _ (exact .ready .paired)) (exact-reads one small)
+
+  still-from : (n k : ℕ) → k + n ≤ slots copies → storeFrom n k copies p c s ≡ still Done s
+  unfolding storeFrom
+  still-from zero k l = refl
+  still-from (suc n) k l = rw (slot-there copies p k (slotCode c k) s (exact .held k (omega arith)), still-from n (k + 1) (omega arith))
+
+  pub exact-still : store copies p c s ≡ still Done s
+  unfolding store
+  exact-still = still-from (slots copies) 0 (omega arith)

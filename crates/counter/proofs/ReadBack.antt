@@ -1,0 +1,74 @@
+-- Cells to turns: bytes that are the codes of a count read as that count, with lag 0.
+--   count-read                the count of each copy
+--   weigh-exact               what the bytes of all slots read as
+use Prim.Native.Nat.{ℕ, zero, suc, _+_, _-_, _*_, _%_, _^_, _≤_, _<_}
+use mathlib.Core.Path.{_≡_, refl, sym, ap, ap₂, _∙_}
+use mathlib.Core.Bool.{Bool, true, false}
+use mathlib.Core.List.{List}
+use native.Mathlib.Omega.{arith}
+use lib.IntN.{ℤ, pos, +ℤ-invr}
+use lib.Dec.{leb}
+use Rattle.code.specs.Codes.{codeOf}
+use Rattle.code.specs.Readings.{readingOf, twofold, isLost, nibbleRead}
+use Rattle.code.specs.Gray.{grayOf, countOf}
+use Rattle.code.specs.Nibbles.{nibbleOf, wordOf}
+use Rattle.code.proofs.GrayLaws.{gray-small, count-of-gray}
+use Rattle.code.proofs.NibbleLaws.{word-of-nibbles}
+use Rattle.code.proofs.ReadingLaws.{code-small, no-twofold, nibble-round, nibble-kept}
+use Rattle.cells.specs.declared.row.Found.the-variants.{Nowhere}
+use Rattle.counter.specs.declared.verdict.Verdict.{Verdict}
+use Rattle.counter.specs.declared.verdict.Verdict.the-variants.{Good, Refused}
+use Rattle.counter.specs.Slots.{slots, every, some, lowest, tabulate}
+use Rattle.counter.specs.Store.{slotCode}
+use Rattle.counter.specs.Reading.{nibbleIn, countIn, close, decide, twofoldAt, lostAt, weigh}
+use Rattle.counter.proofs.RangeTests.{every-not, none-some, none-lowest, tabulate-same}
+
+slot-kept : (c k : ℕ) → isLost (readingOf (slotCode c k)) ≡ false
+unfolding slotCode
+slot-kept c k = nibble-kept (grayOf c) (k % 8)
+
+slot-round : (c k : ℕ) → nibbleRead (readingOf (slotCode c k)) ≡ nibbleOf (grayOf c) (k % 8)
+unfolding slotCode
+slot-round c k = nibble-round (grayOf c) (k % 8)
+
+slot-single : (c k : ℕ) → twofold (slotCode c k) ≡ false
+unfolding slotCode
+slot-single c k = no-twofold _ (code-small (nibbleOf (grayOf c) (k % 8)))
+
+-- the word of the nibbles, listed
+nibbles-word : (w : ℕ) → w < 2 ^ 32 → wordOf (tabulate 8 0 (nibbleOf w)) ≡ w
+unfolding tabulate
+nibbles-word w h = word-of-nibbles w h
+
+decide-same : (c : ℕ) → decide c c ≡ Good c (pos 0)
+unfolding decide close
+decide-same c = rw (+ℤ-invr (pos c))
+
+module _ (copies : ℕ) {c : ℕ} {byte : ℕ → ℕ} (small : c < 2 ^ 32) (exact : (k : ℕ) → k < slots copies → byte k ≡ slotCode c k) where
+  slot-in : (copy n : ℕ) → copy < copies → n < 8 → 8 * copy + n < slots copies
+  slot-in copy n l m = omega arith
+
+  nibble-read : (copy n : ℕ) → copy < copies → n < 8 → nibbleIn copies (λ k. readingOf (byte k)) copy n ≡ nibbleOf (grayOf c) n
+  unfolding nibbleIn
+  nibble-read copy n l m =
+      let e : (8 * copy + n) % 8 ≡ n = omega arith in
+      rw (exact (8 * copy + n) (slot-in copy n l m), slot-kept) (slot-round c (8 * copy + n) ∙ ap (nibbleOf (grayOf c)) e)
+
+  pub count-read : (copy : ℕ) → copy < copies → countIn copies (λ k. readingOf (byte k)) copy ≡ c
+  unfolding countIn
+  count-read copy l =
+      ap (λ (ns : List ℕ). countOf (wordOf ns)) (tabulate-same 8 0 _ _ (λ n from to. nibble-read copy n l (omega arith)))
+      ∙ ap countOf (nibbles-word (grayOf c) (gray-small 32 c small))
+      ∙ count-of-gray c small
+
+  none-twofold : lowest 8 0 (twofoldAt copies byte) ≡ Nowhere
+  none-twofold = none-lowest 8 0 (twofoldAt copies byte) (λ n from to. none-some copies (λ copy. twofold (byte (8 * copy + n))) (λ copy l. ap twofold (exact (8 * copy + n) (slot-in copy n l (omega arith))) ∙ slot-single c (8 * copy + n)))
+
+  none-lost : 1 ≤ copies → lowest 8 0 (lostAt copies (λ k. readingOf (byte k))) ≡ Nowhere
+  none-lost one =
+      none-lowest 8 0 (lostAt copies (λ k. readingOf (byte k)))
+      (λ n from to. every-not copies (λ copy. isLost (readingOf (byte (8 * copy + n)))) 0 one (ap (λ (b : ℕ). isLost (readingOf b)) (exact (8 * 0 + n) (slot-in 0 n one (omega arith))) ∙ slot-kept c (8 * 0 + n)))
+
+  pub weigh-exact : 1 ≤ copies → weigh copies byte ≡ Good c (pos 0)
+  unfolding weigh
+  weigh-exact one = rw (none-twofold, none-lost one, count-read 0 one, count-read (copies - 1) (omega arith)) (decide-same c)

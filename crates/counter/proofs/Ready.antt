@@ -1,0 +1,69 @@
+-- A chip with good settings, and what stays of its map while cells are written.
+--   pointers, dataOf          a chip's pointers, and the byte at each
+--   Ready                     refusals 1 and 2 do not hold
+--   ready-placed              the settings as facts
+--   ready-kept                it stays so
+--   InMap, Own                the cells of the map; those of map or area
+--   byte-kept                 a map byte stays where its cell does
+--   map-kept                  the map stays where only area cells change
+--   inside-cell               a cell of the area is a cell of the image
+use Prim.Native.Nat.{ℕ, _+_, _-_, _*_, _≤_, _<_}
+use mathlib.Core.Path.{_≡_, refl, sym, ap, _∙_}
+use mathlib.Core.Bool.{Bool, true, false}
+use mathlib.Core.List.{List}
+use mathlib.Core.Logic.{_⊎_, inl, inr}
+use native.Mathlib.Omega.{arith}
+use lib.ListN.{length, getD}
+use Rattle.cells.specs.Chip.{Chip, cellAt, Paired, Kept}
+use Rattle.counter.specs.declared.places.Places.{Places}
+use Rattle.counter.specs.Slots.{slots}
+use Rattle.counter.specs.Places.{mapCells, lengthGood, placesGood}
+use Rattle.counter.specs.Map.{mapIn, byteAt, pointerOf}
+use Rattle.counter.proofs.Settings.{Placed, good-placed, map-outside}
+use Rattle.counter.proofs.SoundPointers.{Inside}
+use Rattle.counter.proofs.MapBytes.{map-byte, map-same}
+
+abbrev pub pointers : ℕ → Places → Chip → ℕ → ℕ
+pointers copies p s = pointerOf (mapIn copies p (s .cells))
+
+abbrev pub dataOf : ℕ → Places → Chip → ℕ → ℕ
+dataOf copies p s k = cellAt s (pointers copies p s k)
+
+pub record Ready (copies : ℕ) (p : Places) (s : Chip) : Type 0 where
+  pub paired : Paired s
+  pub long : lengthGood copies (length (s .cells)) ≡ true
+  pub good : placesGood copies (length (s .cells)) p ≡ true
+
+pub record InMap (copies : ℕ) (p : Places) (a : ℕ) : Type 0 where
+  pub from : p .map ≤ a
+  pub to : a < p .map + mapCells copies
+
+abbrev pub Own : ℕ → Places → ℕ → Type 0
+Own copies p a = InMap copies p a ⊎ Inside p a
+
+module _ {copies : ℕ} {p : Places} {s : Chip} (ready : Ready copies p s) where
+  pub ready-placed : Placed copies (length (s .cells)) p
+  ready-placed = good-placed copies (length (s .cells)) p (ready .good)
+
+  pub inside-cell : {a : ℕ} → Inside p a → a < length (s .cells)
+  inside-cell i = let h = ready-placed .endFits in let h′ = i .to in omega arith
+
+  pub start-fits : p .start ≤ p .end + 1
+  start-fits = let h = ready-placed .large in omega arith
+
+  module _ {Place : ℕ → Type 0} {t : Chip} (kept : Kept Place s t) where
+    pub ready-kept : Ready copies p t
+    ready-kept =
+        record
+          { paired = kept .lives-length ∙ ready .paired ∙ sym (kept .cells-length)
+          ; long = rw (kept .cells-length) (ready .long)
+          ; good = rw (kept .cells-length) (ready .good)
+          }
+
+    pub byte-kept : (j : ℕ) → j < mapCells copies → (Place (p .map + j) → ⊥) → byteAt (mapIn copies p (t .cells)) j ≡ byteAt (mapIn copies p (s .cells)) j
+    byte-kept j l n = map-byte copies p (t .cells) j l ∙ kept .cell (p .map + j) n ∙ sym (map-byte copies p (s .cells) j l)
+
+  pub map-kept : {t : Chip} → Kept (Inside p) s t → mapIn copies p (t .cells) ≡ mapIn copies p (s .cells)
+  map-kept {t} kept =
+      map-same copies p (t .cells) (s .cells) (kept .cells-length)
+      (λ j l. kept .cell (p .map + j) (λ i. map-outside ready-placed j (p .map + j) l (i .from) (i .to) refl))
