@@ -8,7 +8,7 @@
 --   step-nibble-divides    it is nibble k just where 16 ^ k divides c + 1 and 16 ^ (k + 1) does not
 use mathlib.Core.Path.{_≡_, refl, sym, ap, ap₂, _∙_}
 use mathlib.Core.Logic.{_≢_, _↔_}
-use Prim.Native.Nat.{ℕ, zero, suc, _+_, _*_, _/_, _%_, _^_, _≤_, _<_}
+use Prim.Native.Nat.{ℕ, zero, suc, _+_, _*_, _/_, _%_, _^_, _<_}
 use native.Mathlib.Nat.{lt-of-lt-of-le, lt-of-not-le, le-dest, pow-suc, add-mod, mul-assoc, mul-lt-mul-of-pos-left, mul-div-cancel-left, mul-mod-left, mul-mod-right, mod-eq-of-lt, div-add-mod, div-eq-of-lt, pow-le-pow-right}
 use native.Mathlib.Decide.{decLt}
 use native.Mathlib.Omega.{arith}
@@ -99,18 +99,19 @@ power-parts t =
 low-power : (t : ℕ) → 2 ^ (t % 4) < 16
 low-power t = pow-lt {j = 4} (omega arith)
 
--- its own nibble is not 0
-power-here : (t : ℕ) → nibbleOf (2 ^ t) (t / 4) ≢ 0
+-- what it stays below
+power-less : (t : ℕ) → 16 ^ (t / 4) * 2 ^ (t % 4) < 16 ^ suc (t / 4)
+power-less t = rw (pow-suc 16 (t / 4)) (mul-lt-mul-of-pos-left (low-power t) (sixteens-positive (t / 4)))
+
+-- its own nibble holds it
+power-here : (t : ℕ) → nibbleOf (2 ^ t) (t / 4) ≡ 2 ^ (t % 4)
 unfolding nibbleOf
-power-here t e =
-    let low : 2 ^ t / 16 ^ (t / 4) % 16 ≡ 2 ^ (t % 4) =
+power-here t =
     ap (λ (x : ℕ). x / 16 ^ (t / 4) % 16) (power-parts t)
     ∙ ap (λ (x : ℕ). x % 16) (mul-div-cancel-left (2 ^ (t % 4)) (sixteens-positive (t / 4)))
-    ∙ mod-eq-of-lt (low-power t) in
-    let positive = pow-pos (t % 4) in
-    omega arith
+    ∙ mod-eq-of-lt (low-power t)
 
--- every other nibble is
+-- every other nibble is 0
 power-others : (t j : ℕ) → j ≢ t / 4 → nibbleOf (2 ^ t) j ≡ 0
 unfolding nibbleOf
 power-others t j other = ap (λ (x : ℕ). x / 16 ^ j % 16) (power-parts t) ∙ go (decLt j (t / 4))
@@ -125,9 +126,8 @@ power-others t j other = ap (λ (x : ℕ). x / 16 ^ j % 16) (power-parts t) ∙ 
         ∙ ap (λ (x : ℕ). x % 16) (mul-div-cancel-left (16 * (16 ^ more * 2 ^ (t % 4))) (sixteens-positive j))
         ∙ mul-mod-right 16 (16 ^ more * 2 ^ (t % 4))
     go (no above) =
-        let less : 16 ^ (t / 4) * 2 ^ (t % 4) < 16 ^ suc (t / 4) =
-        rw (pow-suc 16 (t / 4)) (mul-lt-mul-of-pos-left (low-power t) (sixteens-positive (t / 4))) in
-        ap (λ (x : ℕ). x % 16) (div-eq-of-lt (lt-of-lt-of-le less (pow-le-pow-right (lit< tt) (omega arith))))
+        ap (λ (x : ℕ). x % 16)
+        (div-eq-of-lt (lt-of-lt-of-le (power-less t) (pow-le-pow-right (lit< tt) (omega arith))))
 
 -- the nibbles of what differs between the Gray words of c and c + 1
 step-nibbles : (c j : ℕ) → c + 1 < 2 ^ 32
@@ -143,8 +143,10 @@ pub step-nibble : (c : ℕ) → c + 1 < 2 ^ 32
     → nibbleOf (grayOf (c + 1)) (changedBit (c + 1) / 4) ≢ nibbleOf (grayOf c) (changedBit (c + 1) / 4)
 step-nibble c h same =
     let k = changedBit (c + 1) / 4 in
-    power-here (changedBit (c + 1))
-    (sym (step-nibbles c k h) ∙ ap (bitXor (nibbleOf (grayOf c) k)) same ∙ xor-self (nibbleOf (grayOf c) k))
+    let none = ap (bitXor (nibbleOf (grayOf c) k)) same ∙ xor-self (nibbleOf (grayOf c) k) in
+    let some = step-nibbles c k h ∙ power-here (changedBit (c + 1)) in
+    let positive = pow-pos (changedBit (c + 1) % 4) in
+    omega arith
 
 -- every other nibble stays
 pub step-nibble-others : (c j : ℕ) → c + 1 < 2 ^ 32 → j ≢ changedBit (c + 1) / 4

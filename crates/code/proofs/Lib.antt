@@ -1,6 +1,7 @@
-pub mod Tabulate
+pub mod TabulateLaws
 pub mod XorLaws
 pub mod TrailingLaws
+pub mod CodeLaws
 pub mod NibbleLaws
 pub mod ReadingLaws
 pub mod GrayLaws

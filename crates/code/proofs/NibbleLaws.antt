@@ -1,24 +1,28 @@
 -- The laws of a word and its nibbles (document 01, "Nibbles, bytes and Gray words").
---   sixteens          a power of sixteen as a power of two
---   nibble-small      a nibble is below 16
---   nibble-past       a word of 32 bits has nothing past its eighth nibble
---   word-small        so many nibbles make a word below that power of sixteen
---   word-drop         the word of the nibbles from k on, one nibble down
---   word-of-nibbles   the word of a word's nibbles is that word
---   same-nibbles      words with equal nibbles are equal
-use mathlib.Core.Path.{_≡_, refl, sym, ap, _∙_, subst}
+--   sixteens            a power of sixteen as a power of two
+--   sixteens-positive   no power of sixteen is 0
+--   nibble-small        a nibble is below 16
+--   nibble-past         a word of 32 bits has nothing past its eighth nibble
+--   word-small          n nibbles make a word below 16 ^ n
+--   word-drop-small     so do the nibbles from k on, where they are at most n
+--   word-none           no nibbles from k on make the word 0
+--   word-more           the word of the nibbles from k - 1 on, by that of the nibbles from k on
+--   word-of-nibbles     the word of a word's nibbles is that word
+--   same-nibbles        words with equal nibbles are equal
+use mathlib.Core.Path.{_≡_, refl, sym, ap, _∙_}
 use mathlib.Core.List.{List, [], _∷_}
 use Prim.Native.Nat.{ℕ, zero, suc, _+_, _-_, _*_, _/_, _%_, _^_, _≤_, _<_}
-use native.Mathlib.Nat.{not-suc-le-zero, pow-suc, mul-suc, mul-comm, one-le-pow, pow-le-pow-right, lt-of-lt-of-le, mod-lt, mod-eq-of-lt, mod-one, div-one, div-eq-of-lt, div-div-eq-div-mul}
+use native.Mathlib.Nat.{not-suc-le-zero, pow-suc, mul-suc, one-le-pow, pow-le-pow-right, lt-of-lt-of-le, mod-lt, mod-eq-of-lt, mod-one, div-one, div-eq-of-lt, div-div-eq-div-mul}
 use native.Mathlib.Numerals.{sub-one}
 use native.Mathlib.Omega.{arith}
-use lib.Arith.{mod-mul, digits-lt}
-use lib.Dec.{lit<, lit≤}
+use lib.Arith.{mod-mul}
+use lib.Dec.{lit<}
 use lib.ListN.{length, getD, drop, length-drop, drop-of-length-le}
 use lib.Pow.{pow-add}
 use lib.Seq.{drop-cons, ext-getD}
+use Rattle.code.specs.Tabulate.{tabulate}
 use Rattle.code.specs.Nibbles.{nibbleOf, wordOf}
-use Rattle.code.proofs.Tabulate.{tabulate, at}
+use Rattle.code.proofs.TabulateLaws.{at}
 
 -- a power of sixteen as a power of two
 pub sixteens : (k : ℕ) → 16 ^ k ≡ 2 ^ (4 * k)
@@ -26,6 +30,7 @@ sixteens zero = refl
 sixteens (suc k) =
     pow-suc 16 k ∙ ap (λ (x : ℕ). x * 16) (sixteens k) ∙ sym (ap (λ (x : ℕ). 2 ^ x) (mul-suc 4 k) ∙ pow-add 2 (4 * k) 4)
 
+-- no power of sixteen is 0
 pub sixteens-positive : (k : ℕ) → 0 < 16 ^ k
 sixteens-positive k = one-le-pow k 16 (lit< tt)
 
@@ -39,37 +44,43 @@ pub nibble-past : (w k : ℕ) → w < 2 ^ 32 → 8 ≤ k → nibbleOf w k ≡ 0
 unfolding nibbleOf
 nibble-past w k h l = ap (λ (x : ℕ). x % 16) (div-eq-of-lt (lt-of-lt-of-le h (pow-le-pow-right (lit< tt) l)))
 
--- so many nibbles make a word below that power of sixteen
+-- n nibbles make a word below 16 ^ n
 pub word-small : (ns : List ℕ) → wordOf ns < 16 ^ length ns
 unfolding wordOf
 word-small [] = lit< tt
 word-small (n ∷ ns) = let h = word-small ns in let e = pow-suc 16 (length ns) in omega arith
+
+-- so do the nibbles from k on, where they are at most n
+pub word-drop-small : (ns : List ℕ) (k n : ℕ) → length ns ≤ k + n → wordOf (drop k ns) < 16 ^ n
+word-drop-small ns k n h =
+    lt-of-lt-of-le (word-small (drop k ns)) (pow-le-pow-right (lit< tt) (simp length-drop (omega arith)))
 
 -- no nibbles from k on make the word 0
 pub word-none : (ns : List ℕ) (k : ℕ) → length ns ≤ k → wordOf (drop k ns) ≡ 0
 unfolding wordOf
 word-none ns k h = ap wordOf (drop-of-length-le ns h)
 
--- the word of the nibbles from k - 1 on is that from k on and one nibble below it
+-- the word of the nibbles from k - 1 on, by that of the nibbles from k on
 pub word-more : (ns : List ℕ) (k : ℕ) → 0 < k → k ≤ length ns → wordOf (drop k ns) * 16 + getD ns (k - 1) 0 % 16 ≡ wordOf (drop (k - 1) ns)
 unfolding wordOf
 word-more ns zero p h = absurd (not-suc-le-zero p)
 word-more ns (suc k) p h = rw (sub-one (suc k), drop-cons ns k 0 h) (omega arith)
 
--- the word of the nibbles from k on, of which there are at most n
-pub word-drop-small : (ns : List ℕ) (k n : ℕ) → length ns ≤ k + n → wordOf (drop k ns) < 16 ^ n
-word-drop-small ns k n h =
-    lt-of-lt-of-le (word-small (drop k ns)) (pow-le-pow-right (lit< tt) (simp length-drop (omega arith)))
+-- what stands above nibble i
+above : (w i : ℕ) → w / 16 ^ suc i ≡ w / 16 ^ i / 16
+above w i = ap (λ (x : ℕ). w / x) (pow-suc 16 i) ∙ sym (div-div-eq-div-mul w (16 ^ i) 16)
+
+-- the low n + 1 nibbles are the lowest and the n above it
+low-nibbles : (v n : ℕ) → v % 16 ^ suc n ≡ (v / 16 % 16 ^ n) * 16 + v % 16
+low-nibbles v n = ap (λ (x : ℕ). v % x) (pow-suc 16 n) ∙ mod-mul v (sixteens-positive n) (lit< tt)
 
 -- the word of n nibbles of a word, from nibble i on
 word-from : (w i n : ℕ) → wordOf (tabulate (nibbleOf w) i n) ≡ w / 16 ^ i % 16 ^ n
 unfolding nibbleOf wordOf
 word-from w i zero = sym (mod-one (w / 16 ^ i))
 word-from w i (suc n) =
-    let rest : wordOf (tabulate (nibbleOf w) (suc i) n) ≡ w / 16 ^ i / 16 % 16 ^ n =
-    word-from w (suc i) n ∙ ap (λ (x : ℕ). x % 16 ^ n) (ap (λ (x : ℕ). w / x) (pow-suc 16 i) ∙ sym (div-div-eq-div-mul w (16 ^ i) 16)) in
-    let whole : w / 16 ^ i % 16 ^ suc n ≡ (w / 16 ^ i / 16 % 16 ^ n) * 16 + w / 16 ^ i % 16 =
-    ap (λ (x : ℕ). w / 16 ^ i % x) (pow-suc 16 n) ∙ mod-mul (w / 16 ^ i) (sixteens-positive n) (lit< tt) in
+    let rest = word-from w (suc i) n ∙ ap (λ (x : ℕ). x % 16 ^ n) (above w i) in
+    let whole = low-nibbles (w / 16 ^ i) n in
     omega arith
 
 -- the word of a word's nibbles is that word

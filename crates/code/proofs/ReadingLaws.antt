@@ -1,78 +1,35 @@
--- The laws of codes and readings (document 01, "Nibbles, bytes and Gray words").
---   code-small          a code is a byte
---   code-clean          the code of d reads clean d
---   code-injective      two nibbles with one code are one
---   code-apart          any two codes differ in at least four bits
---   code-complement     the codes of d and 15 - d are complements
+-- The laws of readings (document 01, "Nibbles, bytes and Gray words").
 --   tally               how many readings of a list are clean, mended and lost
 --   tally-of-bytes      of the 256 bytes 16 are clean, 128 mended and 112 lost
---   entry-reading       the entry of a byte stands for its reading
 --   no-twofold          no byte is one bit from two codes
---   entry-twofold       the entry of a byte is 145 just where it is one bit from two codes
+--   entry-at            the table holds at each byte its entry
+--   entry-reading       the entry of a byte stands for its reading
+--   entry-twofold       the entry of a byte tells whether it is one bit from two codes
+--   code-clean          the code of d reads clean d
+--   code-injective      two nibbles with one code are one
+--   lost-zero           a lost reading gives the nibble 0
 --   nibble-read-small   the nibble that a reading gives is below 16
 --   nibble-round        the code of a word's nibble reads as that nibble
---   nibble-kept         and is not lost
+--   nibble-kept         the code of a word's nibble is not lost
 use mathlib.Core.Path.{_≡_, refl, sym, ap, _∙_}
-use mathlib.Core.Logic.{_≢_}
 use mathlib.Core.Bool.{Bool, true, false}
 use mathlib.Core.List.{List, [], _∷_}
-use Prim.Native.Nat.{ℕ, _+_, _-_, _%_, _≤_, _<_}
-use native.Mathlib.Nat.{mod-lt}
+use Prim.Native.Nat.{ℕ, _+_, _≤_, _<_}
 use native.Mathlib.Omega.{arith}
-use borrow.Author.Tests.{ltb-true, leb-true, ne-eqb}
 use lib.Count.{ones, trailingZeros}
-use lib.Dec.{ltb, leb, eqb, lit<, lit≤}
+use lib.Dec.{eqb, lit<, lit≤}
 use lib.ListN.{length, getD}
 use Rattle.code.specs.declared.reading.Reading.{Reading}
 use Rattle.code.specs.declared.reading.Reading.the-variants.{Clean, Mended, Lost}
 use Rattle.code.specs.Codes.{codes, codeOf, distance}
 use Rattle.code.specs.Readings.{keep, nearFrom, near, nearest, readingOf, twofold, isLost, nibbleRead}
-use Rattle.code.specs.Entries.{entryOf, readingAt}
+use Rattle.code.specs.Entries.{entryOf, entries, readingAt, twofoldAt}
 use Rattle.code.specs.Nibbles.{nibbleOf}
+use Rattle.code.specs.Tabulate.{tabulate}
+use Rattle.code.proofs.TabulateLaws.{at, agree}
 use Rattle.code.proofs.NibbleLaws.{nibble-small}
-use Rattle.code.proofs.Tabulate.{tabulate, agree}
 
--- ---- the codes
-
--- a code is a byte
-pub code-small : (d : ℕ) → codeOf d < 256
-unfolding codes codeOf
-code-small d =
-    ltb-true _ _ (agree (λ n. ltb (getD codes n 0) 256) (λ n. true) 16 refl (d % 16) (mod-lt d (lit< tt)))
-
--- the code of d reads clean d
-pub code-clean : (d : ℕ) → d < 16 → readingOf (codeOf d) ≡ Clean d
-unfolding codes codeOf distance nearFrom near readingOf ones
-code-clean = agree (λ d. readingOf (codeOf d)) Clean 16 refl
-
--- two nibbles with one code are one
-pub code-injective : (d e : ℕ) → d < 16 → e < 16 → codeOf d ≡ codeOf e → d ≡ e
-code-injective d e hd he same =
-    let one : Clean d ≡ Clean e = sym (code-clean d hd) ∙ ap readingOf same ∙ code-clean e he in cc
-
--- d and e are the same, or their codes differ in at least four bits
-apart : ℕ → ℕ → Bool
-apart d e = either (eqb d e) (leb 4 (distance (codeOf d) (codeOf e)))
-  where
-    either : Bool → Bool → Bool
-    either true b = true
-    either false b = b
-
--- any two codes differ in at least four bits
-pub code-apart : (d e : ℕ) → d < 16 → e < 16 → d ≢ e → 4 ≤ distance (codeOf d) (codeOf e)
-unfolding codes codeOf distance ones apart
-code-apart d e hd he differ =
-    let row : tabulate (apart d) 0 16 ≡ tabulate (λ e. true) 0 16 =
-    agree (λ d. tabulate (apart d) 0 16) (λ d. tabulate (λ e. true) 0 16) 16 refl d hd in
-    let far : apart d e ≡ true = agree (apart d) (λ e. true) 16 row e he in
-    leb-true _ _ (rw (ne-eqb d e differ) at far)
-
--- the codes of d and 15 - d are complements
-pub code-complement : (d : ℕ) → d < 16 → codeOf d + codeOf (15 - d) ≡ 255
-unfolding codes codeOf
-code-complement = agree (λ d. codeOf d + codeOf (15 - d)) (λ d. 255) 16 refl
-
--- ---- the readings
+-- ---- all bytes
 
 -- how many readings of a list are clean, mended and lost
 abbrev pub tally : List Reading → ℕ × ℕ × ℕ
@@ -86,11 +43,11 @@ pub tally-of-bytes : tally (tabulate readingOf 0 256) ≡ (16, 128, 112)
 unfolding codes distance nearFrom near readingOf ones
 tally-of-bytes = refl
 
--- what the entry of a byte tells of its reading and of two codes one bit away, and what the rule says of such codes
+-- of a byte: the reading that its entry stands for, whether its entry tells of two codes one bit away, and whether there are
 abbrev told : ℕ → Reading × Bool × Bool
-told b = (readingAt (entryOf b), eqb (entryOf b) 145, twofold b)
+told b = (readingAt (entryOf b), twofoldAt (entryOf b), twofold b)
 
--- what they should be
+-- what these three should be
 abbrev due : ℕ → Reading × Bool × Bool
 due b = (readingOf b, false, false)
 
@@ -99,27 +56,48 @@ table-right : (b : ℕ) → b < 256 → told b ≡ due b
 unfolding codes codeOf distance nearFrom near readingOf twofold entryOf ones trailingZeros
 table-right = agree told due 256 refl
 
--- the entry of a byte stands for its reading
-pub entry-reading : (b : ℕ) → b < 256 → readingAt (entryOf b) ≡ readingOf b
-entry-reading b h = ap (λ right. right .0) (table-right b h)
-
 -- no byte is one bit from two codes
 pub no-twofold : (b : ℕ) → b < 256 → twofold b ≡ false
 no-twofold b h = ap (λ right. right .2) (table-right b h)
 
--- the entry of a byte is 145 just where it is one bit from two codes
-pub entry-twofold : (b : ℕ) → b < 256 → eqb (entryOf b) 145 ≡ twofold b
+-- ---- the table
+
+-- the table holds at each byte its entry
+pub entry-at : (b : ℕ) → b < 256 → getD entries b 0 ≡ entryOf b
+unfolding entries
+entry-at = at entryOf 0 256
+
+-- the entry of a byte stands for its reading
+pub entry-reading : (b : ℕ) → b < 256 → readingAt (entryOf b) ≡ readingOf b
+entry-reading b h = ap (λ right. right .0) (table-right b h)
+
+-- the entry of a byte tells whether it is one bit from two codes
+pub entry-twofold : (b : ℕ) → b < 256 → twofoldAt (entryOf b) ≡ twofold b
 entry-twofold b h = ap (λ right. right .1) (table-right b h) ∙ sym (no-twofold b h)
+
+-- ---- codes and nibbles
+
+-- the code of d reads clean d
+pub code-clean : (d : ℕ) → d < 16 → readingOf (codeOf d) ≡ Clean d
+unfolding codes codeOf distance nearFrom near readingOf ones
+code-clean = agree (λ d. readingOf (codeOf d)) Clean 16 refl
+
+-- two nibbles with one code are one
+pub code-injective : (d e : ℕ) → d < 16 → e < 16 → codeOf d ≡ codeOf e → d ≡ e
+code-injective d e hd he same =
+    let one : Clean d ≡ Clean e = sym (code-clean d hd) ∙ ap readingOf same ∙ code-clean e he in cc
 
 -- a list's first number, if it has one, is below n
 abbrev FirstBelow : ℕ → List ℕ → Type 0
 FirstBelow n [] = Unit {0}
 FirstBelow n (d ∷ ds) = d < n
 
+-- so it is with a number below n in front, kept or not
 keep-below : (n : ℕ) (test : Bool) (d : ℕ) (ds : List ℕ) → d < n → FirstBelow n ds → FirstBelow n (keep test d ds)
 keep-below n true d ds h rest = h
 keep-below n false d ds h rest = rest
 
+-- of the nibbles near a byte
 near-below : (n k b d : ℕ) (xs : List ℕ) → d + length xs ≤ n → FirstBelow n (nearFrom k b d xs)
 unfolding nearFrom
 near-below n k b d [] h = tt
@@ -127,6 +105,7 @@ near-below n k b d (x ∷ xs) h =
     keep-below n (eqb (distance b x) k) d (nearFrom k b (d + 1) xs) (omega arith)
     (near-below n k b (d + 1) xs (omega arith))
 
+-- of the one that is read
 nearest-below : (n : ℕ) (ds es : List ℕ) → 0 < n → FirstBelow n ds → FirstBelow n es → nibbleRead (nearest ds es) < n
 unfolding nibbleRead
 nearest-below n (d ∷ ds) es p hd he = hd
@@ -144,7 +123,14 @@ pub nibble-round : (w k : ℕ) → nibbleRead (readingOf (codeOf (nibbleOf w k))
 unfolding nibbleRead
 nibble-round w k = ap nibbleRead (code-clean (nibbleOf w k) (nibble-small w k))
 
--- and is not lost
+-- the code of a word's nibble is not lost
 pub nibble-kept : (w k : ℕ) → isLost (readingOf (codeOf (nibbleOf w k))) ≡ false
 unfolding isLost
 nibble-kept w k = ap isLost (code-clean (nibbleOf w k) (nibble-small w k))
+
+-- a lost reading gives the nibble 0
+pub lost-zero : (r : Reading) → isLost r ≡ true → nibbleRead r ≡ 0
+unfolding isLost nibbleRead
+lost-zero (Clean d) h = let z : _≡_ {A = ℕ} 0 1 = cc in absurd (omega arith)
+lost-zero (Mended d) h = let z : _≡_ {A = ℕ} 0 1 = cc in absurd (omega arith)
+lost-zero Lost h = refl

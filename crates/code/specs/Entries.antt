@@ -1,26 +1,41 @@
--- The entries of the table of readings: one number for what a byte reads as.
+-- The table of readings: an entry is one number for what a byte reads as (document 01, "Nibbles, bytes and Gray words").
 use Prim.Native.Nat.{ℕ, _+_, _-_, _*_, _/_}
 use mathlib.Core.Bool.{Bool, true, false}
 use mathlib.Core.List.{List, [], _∷_}
 use lib.Bits.{bitXor}
 use lib.Count.{trailingZeros}
-use lib.Dec.{ltb}
+use lib.Dec.{ltb, eqb}
 use Rattle.code.specs.declared.reading.Reading.{Reading}
 use Rattle.code.specs.declared.reading.Reading.the-variants.{Clean, Mended, Lost}
+use Rattle.code.specs.Tabulate.{tabulate}
 use Rattle.code.specs.Codes.{codeOf}
 use Rattle.code.specs.Readings.{near}
 
--- the entry of the byte b, given the nibbles whose code it is and those whose code is one bit away: clean d is d, mended d at
--- bit i is 16 + 8 * d + i, lost is 144, and one bit from two codes is 145
+-- the first entry of a mended byte, the entry of a lost one, and that of a byte one bit from two codes
+abbrev pub mendedEntry : ℕ
+mendedEntry = 16
+
+abbrev pub lostEntry : ℕ
+lostEntry = 144
+
+abbrev pub twofoldEntry : ℕ
+twofoldEntry = 145
+
+-- the entry of the byte b, given the nibbles whose code it is and those whose code is one bit away: the code of d has the
+-- entry d, and a byte that differs from it in bit i alone has 8 * d + i, counted from the first entry of a mended byte
 abbrev pub entryFrom : ℕ → List ℕ → List ℕ → ℕ
 entryFrom b (d ∷ ds) es = d
-entryFrom b [] [] = 144
-entryFrom b [] (d ∷ []) = 16 + 8 * d + trailingZeros 8 (bitXor b (codeOf d))
-entryFrom b [] (d ∷ e ∷ es) = 145
+entryFrom b [] [] = lostEntry
+entryFrom b [] (d ∷ []) = mendedEntry + 8 * d + trailingZeros 8 (bitXor b (codeOf d))
+entryFrom b [] (d ∷ e ∷ es) = twofoldEntry
 
 -- the entry of the byte b
 unfoldable pub entryOf : ℕ → ℕ
 entryOf b = entryFrom b (near 0 b) (near 1 b)
+
+-- the table: the entries of all bytes
+unfoldable pub entries : List ℕ
+entries = tabulate entryOf 0 256
 
 abbrev pub pick : Bool → Reading → Reading → Reading
 pick true a b = a
@@ -28,4 +43,9 @@ pick false a b = b
 
 -- the reading that an entry stands for
 abbrev pub readingAt : ℕ → Reading
-readingAt e = pick (ltb e 16) (Clean e) (pick (ltb e 144) (Mended ((e - 16) / 8)) Lost)
+readingAt e =
+    pick (ltb e mendedEntry) (Clean e) (pick (ltb e lostEntry) (Mended ((e - mendedEntry) / 8)) Lost)
+
+-- whether an entry stands for a byte one bit from two codes
+abbrev pub twofoldAt : ℕ → Bool
+twofoldAt e = eqb e twofoldEntry

@@ -1,3 +1,4 @@
+pub mod Tabulate
 pub mod Codes
 pub mod Readings
 pub mod Entries

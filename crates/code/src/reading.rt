@@ -1,7 +1,7 @@
 // The readings of a byte (document 01, "Nibbles, bytes and Gray words").
 ghost use mathlib.Core.Path.{_≡_};
 ghost use Rattle.code.specs.Readings.{readingOf, twofold, isLost, nibbleRead};
-ghost use Rattle.code.specs.Entries.{readingAt};
+ghost use Rattle.code.specs.Entries.{readingAt, twofoldAt};
 use super::table::entry_of;
 
 // What a byte reads as: a nibble's own code, a byte one bit from it, or nothing that can be told.
@@ -11,17 +11,31 @@ pub enum Reading {
     Lost,
 }
 
+// The first entry of a mended byte, the entry of a lost one, and that of a byte one bit from two codes.
+const MENDED: u8 = 16;
+
+const LOST: u8 = 144;
+
+const TWOFOLD: u8 = 145;
+
 // The reading that an entry stands for.
 pub fn reading_at(entry: u8) -> Reading
     ensures { λ r. ⌜ r ≡ readingAt entry ⌝ }
 {
-    if entry < 16 {
+    if entry < MENDED {
         Reading::Clean(entry)
-    } else if entry < 144 {
-        Reading::Mended((entry - 16) / 8)
+    } else if entry < LOST {
+        Reading::Mended((entry - MENDED) / 8)
     } else {
         Reading::Lost
     }
+}
+
+// Whether an entry stands for a byte one bit from two codes.
+pub fn twofold_at(entry: u8) -> bool
+    ensures { λ r. ⌜ r ≡ twofoldAt entry ⌝ }
+{
+    entry == TWOFOLD
 }
 
 // What a byte reads as.
@@ -35,7 +49,7 @@ pub fn reading_of(byte: u8) -> Reading
 pub fn twofold_byte(byte: u8) -> bool
     ensures { λ r. ⌜ r ≡ twofold byte ⌝ }
 {
-    entry_of(byte) == 145
+    twofold_at(entry_of(byte))
 }
 
 // Whether a reading tells nothing.

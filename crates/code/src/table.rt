@@ -4,7 +4,7 @@
 ghost use mathlib.Core.Path.{_≡_};
 ghost use Prim.Native.Nat.{ℕ, _<_};
 ghost use lib.ListN.{getD};
-ghost use Rattle.code.specs.Entries.{entryOf};
+ghost use Rattle.code.specs.Entries.{entryOf, entries};
 
 // The entries of the bytes 00 to FF.
 const TABLE: [u8; 256] = [
@@ -266,6 +266,13 @@ const TABLE: [u8; 256] = [
     143,
 ];
 
+// The table, laid once where many bytes are looked up.
+pub fn laid() -> [u8; 256]
+    ensures { λ r. ⌜ r ≡ entries ⌝ }
+{
+    TABLE
+}
+
 // A byte as a number of any size.
 pub fn wide(byte: u8) -> usize
     ensures { λ r. ⌜ (r ≡ byte) × (r < 256) ⌝ }
@@ -273,31 +280,31 @@ pub fn wide(byte: u8) -> usize
     byte as usize
 }
 
-// The table, whose every entry is that of its byte.
-fn table() -> [u8; 256]
-    ensures { λ r. ⌜ ((b : ℕ) → b < 256 → getD r b 0 ≡ entryOf b) ⌝ }
+// The entry of a byte in a table that is lent.
+pub fn entry_in(table: &[u8; 256], byte: u8) -> u8
+    ensures { λ r. ⌜ r ≡ getD (now (table .entry)) byte 0 ⌝ }
 {
-    TABLE
+    table[byte as usize]
 }
 
 // The entry of a byte.
 pub fn entry_of(byte: u8) -> u8
     ensures { λ r. ⌜ r ≡ entryOf byte ⌝ }
 {
-    let entries = table();
-    entries[byte as usize]
+    let table = laid();
+    entry_in(&table, byte)
 }
 
-// The entries of sixteen bytes, for which the table is laid out once.
+// The entries of sixteen bytes.
 pub fn entries_of(bytes: &[u8; 16]) -> [u8; 16]
-    ensures { λ r. ⌜ ((k : ℕ) → k < 16 → getD r k 0 ≡ entryOf (getD (now (bytes .entry)) k 0)) ⌝ }
+    ensures { λ r. ⌜ ((k : ℕ) → k < 16 → (getD r k 0 ≡ entryOf (getD (now (bytes .entry)) k 0)) × (getD (now (bytes .entry)) k 0 < 256)) ⌝ }
 {
-    let table = table();
-    let mut entries = [0u8; 16];
+    let table = laid();
+    let mut read = [0u8; 16];
     let mut k = 0;
     while k < 16 {
-        entries[k] = table[wide(bytes[k])];
+        read[k] = table[wide(bytes[k])];
         k += 1;
     }
-    entries
+    read
 }

@@ -4,34 +4,30 @@
 --   exact-opened              after a first opening that is done, at 0
 --   exact-reads, exact-verdict  it reads as c, with lag 0
 --   exact-still               storing c on it asks nothing and changes nothing
-use Prim.Native.Nat.{ℕ, zero, suc, _+_, _*_, _^_, _≤_, _<_}
-use mathlib.Core.Path.{_≡_, refl, sym, ap, _∙_}
-use mathlib.Core.Bool.{Bool, true, false}
+use Prim.Native.Nat.{ℕ, zero, suc, _+_, _^_, _≤_, _<_}
+use mathlib.Core.Path.{_≡_, refl, sym, _∙_}
+use mathlib.Core.Bool.{true}
 use native.Mathlib.Omega.{arith}
-use lib.IntN.{ℤ, pos}
-use lib.ListN.{length}
+use lib.IntN.{pos}
 use borrow.Author.Tests.{eq-eqb}
-use Rattle.cells.specs.Chip.{Chip, cellAt, Kept}
-use Rattle.cells.specs.Run.{Run, still}
+use Rattle.cells.specs.Chip.{Chip}
+use Rattle.cells.specs.Run.{still}
 use Rattle.cells.proofs.Logs.{within-kept}
 use Rattle.counter.specs.declared.places.Places.{Places}
-use Rattle.counter.specs.declared.verdict.Work.{Work}
-use Rattle.counter.specs.declared.verdict.Work.the-variants.{Done, Stopped}
-use Rattle.counter.specs.declared.verdict.Verdict.{Verdict}
+use Rattle.counter.specs.declared.verdict.Work.the-variants.{Done}
 use Rattle.counter.specs.declared.verdict.Verdict.the-variants.{Good}
 use Rattle.counter.specs.Slots.{slots}
 use Rattle.counter.specs.Map.{mapIn, marked, sound}
-use Rattle.counter.specs.Verdict.{_andThen_}
 use Rattle.counter.specs.Reading.{examine, verdictOf}
-use Rattle.counter.specs.Store.{slotCode, storeSlot, storeFrom, store}
+use Rattle.counter.specs.Store.{slotCode, storeFrom, store}
 use Rattle.counter.specs.Opening.{firstOpening}
 use Rattle.counter.specs.Doors.{chipVerdict}
 use Rattle.counter.specs.Places.{livesGood}
 use Rattle.counter.proofs.SoundPointers.{Sound, sound-test}
 use Rattle.counter.proofs.Ready.{pointers, dataOf, Ready, ready-kept}
 use Rattle.counter.proofs.Moves.{slot-there}
-use Rattle.counter.proofs.Stores.{Stored, Stores, store-laws}
-use Rattle.counter.proofs.Openings.{Opened, Opens, opening-laws, zero-code}
+use Rattle.counter.proofs.Stores.{store-laws}
+use Rattle.counter.proofs.Openings.{opening-laws, zero-code}
 use Rattle.counter.proofs.ReadBack.{weigh-exact}
 
 pub record Exact (copies : ℕ) (p : Places) (c : ℕ) (s : Chip) : Type 0 where
@@ -41,27 +37,29 @@ pub record Exact (copies : ℕ) (p : Places) (c : ℕ) (s : Chip) : Type 0 where
   pub held : (k : ℕ) → k < slots copies → dataOf copies p s k ≡ slotCode c k
 
 module _ {copies : ℕ} {p : Places} {s : Chip} (ready : Ready copies p s) where
-  pub exact-stored : (c : ℕ) → marked (mapIn copies p (s .cells)) ≡ true → Sound (slots copies) p (pointers copies p s) → store copies p c s .answer ≡ Done → Exact copies p c (store copies p c s .after)
+  pub exact-stored :
+      (c : ℕ) → marked (mapIn copies p (s .cells)) ≡ true → Sound (slots copies) p (pointers copies p s)
+      → store copies p c s .answer ≡ Done → Exact copies p c (store copies p c s .after)
   exact-stored c marks sound e =
       let laws = store-laws copies p c s ready sound in
       let stored = laws .stored e in
-      record
-        { ready = ready-kept ready (within-kept (laws .within))
-        ; marks = laws .mark ∙ marks
-        ; sound = stored .sound
-        ; held = λ k l. stored .held k (omega arith) (omega arith)
-        }
+      record {
+        ready = ready-kept ready (within-kept (laws .within));
+        marks = laws .mark ∙ marks;
+        sound = stored .sound;
+        held = λ k l. stored .held k (omega arith) (omega arith);
+      }
 
   pub exact-opened : firstOpening copies p s .answer ≡ Done → Exact copies p 0 (firstOpening copies p s .after)
   exact-opened e =
       let laws = opening-laws ready in
       let opened = laws .opened e in
-      record
-        { ready = ready-kept ready (within-kept (laws .within))
-        ; marks = opened .marks
-        ; sound = opened .sound
-        ; held = λ k l. opened .held k l ∙ sym (zero-code k)
-        }
+      record {
+        ready = ready-kept ready (within-kept (laws .within));
+        marks = opened .marks;
+        sound = opened .sound;
+        held = λ k l. opened .held k l ∙ sym (zero-code k);
+      }
 
 module _ {copies : ℕ} {p : Places} {c : ℕ} {s : Chip} (exact : Exact copies p c s) where
   pub exact-reads : 1 ≤ copies → c < 2 ^ 32 → verdictOf copies p (s .cells) ≡ Good c (pos 0)

@@ -7,26 +7,29 @@
 --   Free                      an address of a kind may be taken from a gap
 --   Spare                     the same in the document's words, over the pointers
 --   spare-free, free-spare    the two are one
+--   OnFrom, free-may, may-free  and the same by the test `mayTry`, from the next address on
 --   walked-free, free-walked  a walk over the spares goes over just those
 --   spare-fresh               no pointer is a spare
 --   between-unique            a gap is all that its properties say
 --   between-moved             a pointer moved to a free cell narrows the gap by it
 --   sound-joined              sound pointers, one of them put at a spare
 --   gap-more                  the gap of one slot more
-use Prim.Native.Nat.{ℕ, zero, suc, _+_, _-_, _*_, _≤_, _<_, min, max}
+use Prim.Native.Nat.{ℕ, zero, suc, _+_, _-_, _≤_, _<_, min, max}
 use mathlib.Core.Path.{_≡_, refl, sym, ap, _∙_}
-use mathlib.Core.Bool.{Bool, true, false}
-use native.Mathlib.Decide.{decLt, ℕ-discrete}
+use mathlib.Core.Bool.{true}
+use native.Mathlib.Decide.{ℕ-discrete}
 use native.Mathlib.Omega.{arith}
-use Rattle.cells.specs.declared.row.Way.{Way}
-use Rattle.cells.specs.declared.row.Way.the-variants.{Up, Down}
+use lib.Dec.{leb}
+use borrow.Author.Tests.{leb-true, ltb-true, le-leb, lt-ltb}
 use Rattle.cells.specs.Row.{nth}
 use Rattle.counter.specs.declared.map.Kind.{Kind}
 use Rattle.counter.specs.declared.map.Kind.the-variants.{High, Low}
 use Rattle.counter.specs.declared.places.Places.{Places}
 use Rattle.counter.specs.declared.spares.Gap.{Gap}
 use Rattle.counter.specs.Slots.{slots, kindOf}
-use Rattle.counter.specs.Spares.{gap, wholeArea, narrow, gapTo, gapOf, wayOf, nextOf, sparesOf}
+use Rattle.counter.specs.Map.{inArea}
+use Rattle.counter.specs.Spares.{gap, wholeArea, narrow, gapTo, gapOf, mayTry, wayOf, nextOf, sparesOf}
+use Rattle.counter.proofs.RangeTests.{and-true, true-and}
 use Rattle.counter.proofs.SoundPointers.{Inside, Sound}
 use native.Mathlib.Numerals.{add-one}
 
@@ -42,14 +45,14 @@ pub record Between (n : ℕ) (p : Places) (pointer : ℕ → ℕ) (g : Gap) : Ty
 pub between-none : (p : Places) (pointer : ℕ → ℕ) → Between 0 p pointer (wholeArea p)
 unfolding wholeArea
 between-none p pointer =
-    record
-      { start = omega arith
-      ; end = omega arith
-      ; above = λ k l e. absurd (omega arith)
-      ; below = λ k l e. absurd (omega arith)
-      ; least = λ a l h. l
-      ; greatest = λ a l h. l
-      }
+    record {
+      start = omega arith;
+      end = omega arith;
+      above = λ k l e. absurd (omega arith);
+      below = λ k l e. absurd (omega arith);
+      least = λ a l h. l;
+      greatest = λ a l h. l;
+    }
 
 narrow-high : (a : ℕ) (g : Gap) → narrow High a g ≡ gap (max (g .high) (a + 1)) (g .low)
 unfolding narrow
@@ -70,25 +73,25 @@ last P n h e k l = go (ℕ-discrete k n)
 module _ {n : ℕ} {p : Places} {pointer : ℕ → ℕ} {g : Gap} (b : Between n p pointer g) where
   more-high : (a : ℕ) → kindOf n ≡ High → pointer n ≡ a → Between (suc n) p pointer (gap (max (g .high) (a + 1)) (g .low))
   more-high a kind at =
-      record
-        { start = let h = b .start in omega arith
-        ; end = b .end
-        ; above = last (λ k. kindOf k ≡ High → pointer k < max (g .high) (a + 1)) n (λ k l e. let h = b .above k l e in omega arith) (λ e. omega arith)
-        ; below = last (λ k. kindOf k ≡ Low → g .low ≤ pointer k) n (b .below) (λ e. let z : _≡_ {A = ℕ} 0 1 = cc in absurd (omega arith))
-        ; least = λ c l h. let x = b .least c l (λ k m e. h k (omega arith) e) in let y = h n (omega arith) kind in omega arith
-        ; greatest = λ c l h. b .greatest c l (λ k m e. h k (omega arith) e)
-        }
+      record {
+        start = let h = b .start in omega arith;
+        end = b .end;
+        above = last (λ k. kindOf k ≡ High → pointer k < max (g .high) (a + 1)) n (λ k l e. let h = b .above k l e in omega arith) (λ e. omega arith);
+        below = last (λ k. kindOf k ≡ Low → g .low ≤ pointer k) n (b .below) (λ e. let z : _≡_ {A = ℕ} 0 1 = cc in absurd (omega arith));
+        least = λ c l h. let x = b .least c l (λ k m e. h k (omega arith) e) in let y = h n (omega arith) kind in omega arith;
+        greatest = λ c l h. b .greatest c l (λ k m e. h k (omega arith) e);
+      }
 
   more-low : (a : ℕ) → kindOf n ≡ Low → pointer n ≡ a → Between (suc n) p pointer (gap (g .high) (min (g .low) a))
   more-low a kind at =
-      record
-        { start = b .start
-        ; end = let h = b .end in omega arith
-        ; above = last (λ k. kindOf k ≡ High → pointer k < g .high) n (b .above) (λ e. let z : _≡_ {A = ℕ} 0 1 = cc in absurd (omega arith))
-        ; below = last (λ k. kindOf k ≡ Low → min (g .low) a ≤ pointer k) n (λ k l e. let h = b .below k l e in omega arith) (λ e. omega arith)
-        ; least = λ c l h. b .least c l (λ k m e. h k (omega arith) e)
-        ; greatest = λ c l h. let x = b .greatest c l (λ k m e. h k (omega arith) e) in let y = h n (omega arith) kind in omega arith
-        }
+      record {
+        start = b .start;
+        end = let h = b .end in omega arith;
+        above = last (λ k. kindOf k ≡ High → pointer k < g .high) n (b .above) (λ e. let z : _≡_ {A = ℕ} 0 1 = cc in absurd (omega arith));
+        below = last (λ k. kindOf k ≡ Low → min (g .low) a ≤ pointer k) n (λ k l e. let h = b .below k l e in omega arith) (λ e. omega arith);
+        least = λ c l h. b .least c l (λ k m e. h k (omega arith) e);
+        greatest = λ c l h. let x = b .greatest c l (λ k m e. h k (omega arith) e) in let y = h n (omega arith) kind in omega arith;
+      }
 
   pub between-more : (a : ℕ) → pointer n ≡ a → Between (suc n) p pointer (narrow (kindOf n) a g)
   between-more a at = go (kindOf n) refl
@@ -107,7 +110,9 @@ unfolding gapOf
 between-map copies p pointer = between-gap (slots copies) p pointer
 
 -- sound pointers leave a gap that is none or more cells of the area
-pub between-ordered : {n : ℕ} {p : Places} {pointer : ℕ → ℕ} {g : Gap} → p .start ≤ p .end + 1 → Sound n p pointer → Between n p pointer g → g .high ≤ g .low
+pub between-ordered :
+    {n : ℕ} {p : Places} {pointer : ℕ → ℕ} {g : Gap} → p .start ≤ p .end + 1 → Sound n p pointer
+    → Between n p pointer g → g .high ≤ g .low
 between-ordered {n} {p} {pointer} {g} fits s b =
     b .least (g .low)
     (b .greatest (p .start) fits (λ k l e. s .inside k l .from))
@@ -130,20 +135,45 @@ pub record Spare (kind : Kind) (n : ℕ) (p : Places) (pointer : ℕ → ℕ) (a
 module _ {kind : Kind} {n : ℕ} {p : Places} {pointer : ℕ → ℕ} {g : Gap} {a : ℕ} (b : Between n p pointer g) where
   pub free-spare : Free kind g a → Spare kind n p pointer a
   free-spare f =
-      record
-        { inside = record { from = let h = b .start in let h′ = f .from in omega arith; to = let h = b .end in let h′ = f .to in omega arith }
-        ; reach = f .reach
-        ; above = λ k l e. let h = b .above k l e in let h′ = f .from in omega arith
-        ; below = λ k l e. let h = b .below k l e in let h′ = f .to in omega arith
-        }
+      record {
+        inside = record { from = let h = b .start in let h′ = f .from in omega arith; to = let h = b .end in let h′ = f .to in omega arith };
+        reach = f .reach;
+        above = λ k l e. let h = b .above k l e in let h′ = f .from in omega arith;
+        below = λ k l e. let h = b .below k l e in let h′ = f .to in omega arith;
+      }
 
   pub spare-free : Spare kind n p pointer a → Free kind g a
   spare-free s =
-      record
-        { from = b .least a (s .inside .from) (s .above)
-        ; to = let h = b .greatest (a + 1) (let h = s .inside .to in omega arith) (λ k l e. let h = s .below k l e in omega arith) in omega arith
-        ; reach = s .reach
-        }
+      record {
+        from = b .least a (s .inside .from) (s .above);
+        to = let h = b .greatest (a + 1) (let h = s .inside .to in omega arith) (λ k l e. let h = s .below k l e in omega arith) in omega arith;
+        reach = s .reach;
+      }
+
+-- from the next address of a kind on
+unfoldable pub OnFrom : Kind → Gap → ℕ → Type 0
+OnFrom High g a = g .high ≤ a
+OnFrom Low g a = a < g .low
+
+-- the free cells are those from the next address on that may be tried
+pub free-may :
+    (kind : Kind) {n : ℕ} {p : Places} {pointer : ℕ → ℕ} {g : Gap} {a : ℕ} → Between n p pointer g
+    → Free kind g a → OnFrom kind g a × (mayTry p kind g a ≡ true)
+unfolding OnFrom mayTry
+free-may High b f =
+    let i = free-spare b f .inside in
+    (f .from, true-and _ _ (true-and _ _ (le-leb _ _ (i .from)) (le-leb _ _ (i .to))) (true-and _ _ (le-leb _ _ (f .reach refl)) (lt-ltb _ _ (f .to))))
+free-may Low b f =
+    let i = free-spare b f .inside in
+    (f .to, true-and _ _ (true-and _ _ (le-leb _ _ (i .from)) (le-leb _ _ (i .to))) (le-leb _ _ (f .from)))
+
+pub may-free : (kind : Kind) (p : Places) (g : Gap) (a : ℕ) → OnFrom kind g a → mayTry p kind g a ≡ true → Free kind g a
+unfolding OnFrom mayTry
+may-free High p g a on may =
+    let rest = and-true (leb a 255) _ (and-true (inArea p a) _ may .1) in
+    record { from = on; to = ltb-true _ _ (rest .1); reach = λ e. leb-true _ _ (rest .0) }
+may-free Low p g a on may =
+    record { from = leb-true _ _ (and-true (inArea p a) _ may .1); to = on; reach = λ e. let z : _≡_ {A = ℕ} 0 1 = cc in absurd (omega arith) }
 
 -- a walk over the spares of a kind goes over the free cells, and over all of them
 pub walked-free : (kind : Kind) (g : Gap) (j : ℕ) → j < sparesOf kind g → Free kind g (nth (wayOf kind) (nextOf kind g) j)
@@ -157,7 +187,9 @@ free-walked High g a f = let h = f .from in let h′ = f .to in let h″ = f .re
 free-walked Low g a f = let h = f .from in let h′ = f .to in (g .low - 1 - a, omega arith, omega arith)
 
 -- a gap is all that its properties say
-pub between-unique : {n : ℕ} {p : Places} {pointer : ℕ → ℕ} {g h : Gap} → Between n p pointer g → Between n p pointer h → (g .high ≡ h .high) × (g .low ≡ h .low)
+pub between-unique :
+    {n : ℕ} {p : Places} {pointer : ℕ → ℕ} {g h : Gap} → Between n p pointer g → Between n p pointer h
+    → (g .high ≡ h .high) × (g .low ≡ h .low)
 between-unique {n} {p} {pointer} {g} {h} b c =
     let x = b .least (h .high) (c .start) (c .above) in
     let y = c .least (g .high) (b .start) (b .above) in
@@ -172,14 +204,14 @@ module _ {n k a : ℕ} {p : Places} {f : ℕ → ℕ} {g : Gap} (h : ℕ → ℕ
   moved-high kind =
       let from = free .from in
       let start = b .start in
-      record
-        { start = omega arith
-        ; end = b .end
-        ; above = λ j m e. above j m e (ℕ-discrete j k)
-        ; below = λ j m e. rw (others j m (λ q. let z : _≡_ {A = ℕ} 0 1 = cc in omega arith)) (b .below j m e)
-        ; least = λ c m bound. let x = bound k l kind in omega arith
-        ; greatest = λ c m bound. b .greatest c m (λ j o e. rw (← others j o (λ q. let z : _≡_ {A = ℕ} 0 1 = cc in omega arith)) (bound j o e))
-        }
+      record {
+        start = omega arith;
+        end = b .end;
+        above = λ j m e. above j m e (ℕ-discrete j k);
+        below = λ j m e. rw (others j m (λ q. let z : _≡_ {A = ℕ} 0 1 = cc in omega arith)) (b .below j m e);
+        least = λ c m bound. let x = bound k l kind in omega arith;
+        greatest = λ c m bound. b .greatest c m (λ j o e. rw (← others j o (λ q. let z : _≡_ {A = ℕ} 0 1 = cc in omega arith)) (bound j o e));
+      }
     where
       above : (j : ℕ) → j < n → kindOf j ≡ High → Dec (j ≡ k) → h j < max (g .high) (a + 1)
       above j m e (yes q) = rw (q, at) (omega arith)
@@ -189,14 +221,14 @@ module _ {n k a : ℕ} {p : Places} {f : ℕ → ℕ} {g : Gap} (h : ℕ → ℕ
   moved-low kind =
       let to = free .to in
       let end = b .end in
-      record
-        { start = b .start
-        ; end = omega arith
-        ; above = λ j m e. rw (others j m (λ q. let z : _≡_ {A = ℕ} 0 1 = cc in omega arith)) (b .above j m e)
-        ; below = λ j m e. below j m e (ℕ-discrete j k)
-        ; least = λ c m bound. b .least c m (λ j o e. rw (← others j o (λ q. let z : _≡_ {A = ℕ} 0 1 = cc in omega arith)) (bound j o e))
-        ; greatest = λ c m bound. let x = bound k l kind in omega arith
-        }
+      record {
+        start = b .start;
+        end = omega arith;
+        above = λ j m e. rw (others j m (λ q. let z : _≡_ {A = ℕ} 0 1 = cc in omega arith)) (b .above j m e);
+        below = λ j m e. below j m e (ℕ-discrete j k);
+        least = λ c m bound. b .least c m (λ j o e. rw (← others j o (λ q. let z : _≡_ {A = ℕ} 0 1 = cc in omega arith)) (bound j o e));
+        greatest = λ c m bound. let x = bound k l kind in omega arith;
+      }
     where
       below : (j : ℕ) → j < n → kindOf j ≡ Low → Dec (j ≡ k) → min (g .low) a ≤ h j
       below j m e (yes q) = rw (q, at) (omega arith)
@@ -248,12 +280,12 @@ module _ {n m k a : ℕ} {p : Places} {f : ℕ → ℕ} (h : ℕ → ℕ) (s : S
 
   pub sound-joined : Sound m p h
   sound-joined =
-      record
-        { inside = λ j l. joined-inside j l (ℕ-discrete j k)
-        ; reach = λ j l. joined-reach j l (ℕ-discrete j k)
-        ; apart = λ i j l l′. joined-apart i j l l′ (ℕ-discrete i k) (ℕ-discrete j k)
-        ; order = λ i j l l′. joined-order i j l l′ (ℕ-discrete i k) (ℕ-discrete j k)
-        }
+      record {
+        inside = λ j l. joined-inside j l (ℕ-discrete j k);
+        reach = λ j l. joined-reach j l (ℕ-discrete j k);
+        apart = λ i j l l′. joined-apart i j l l′ (ℕ-discrete i k) (ℕ-discrete j k);
+        order = λ i j l l′. joined-order i j l l′ (ℕ-discrete i k) (ℕ-discrete j k);
+      }
 
 pub gap-more : (k : ℕ) (p : Places) (pointer : ℕ → ℕ) → narrow (kindOf k) (pointer k) (gapTo k p pointer) ≡ gapTo (k + 1) p pointer
 unfolding gapTo

@@ -6,6 +6,7 @@ pub mod SoundPointers
 pub mod Gaps
 pub mod MayTry
 pub mod SoundByTries
+pub mod CodeMore
 pub mod Ready
 pub mod Pointers
 pub mod Tries
@@ -16,3 +17,5 @@ pub mod Openings
 pub mod ReadBack
 pub mod Exact
 pub mod GoodVerdicts
+pub mod Lags
+pub mod Weighed

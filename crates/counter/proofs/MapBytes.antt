@@ -1,52 +1,66 @@
 -- The map inside an image: its bytes, its mark and its pointers, by the cells they lie in.
 --   map-byte                  byte j of the map is the cell j behind its place
+--   map-part                  the part of the image that starts at the map's place is the map
 --   map-same                  images that agree on the map's cells have the same map
 --   pointer-same              maps that agree on a pointer's bytes have the same pointer
 --   pointer-put               the bytes of an address, read as a pointer, give the address
 --   mark-same                 maps that agree on the first two bytes are marked alike
 --   mark-put                  the mark's two bytes are a mark
-use Prim.Native.Nat.{ℕ, zero, suc, _+_, _-_, _*_, _/_, _%_, _≤_, _<_}
-use mathlib.Core.Path.{_≡_, refl, sym, ap, _∙_}
-use mathlib.Core.Bool.{Bool, true, false}
-use mathlib.Core.List.{List, [], _∷_}
-use native.Mathlib.Nat.{add-assoc, add-zero}
+use Prim.Native.Nat.{ℕ, _+_, _/_, _%_, _≤_, _<_, _-_}
+use mathlib.Core.Path.{_≡_, sym, _∙_, ap}
+use mathlib.Core.Bool.{true}
+use mathlib.Core.List.{List}
+use native.Mathlib.Nat.{add-zero, add-sub-cancel-left}
 use native.Mathlib.Omega.{arith}
-use lib.Dec.{eqb}
-use lib.ListN.{length, getD, take, drop, length-take, length-drop}
+use lib.ListN.{length, getD, drop, length-take, length-drop, take}
 use lib.Seq.{getD-take, getD-drop, ext-getD}
-use borrow.Author.Tests.{eq-eqb}
 use Rattle.counter.specs.declared.map.Kind.{Kind}
 use Rattle.counter.specs.declared.map.Kind.the-variants.{High, Low}
 use Rattle.counter.specs.declared.places.Places.{Places}
-use Rattle.counter.specs.Slots.{slots, kindOf}
+use Rattle.counter.specs.Slots.{kindOf}
 use Rattle.counter.specs.Places.{mapCells}
 use Rattle.counter.specs.Map.{mapIn, byteAt, marked, offsetOf, pointerAt, pointerOf, pointerBytes}
-use Rattle.counter.proofs.Offsets.{bytesOf, bytes-length}
+use Rattle.counter.proofs.Offsets.{bytesOf}
 
 pub map-byte : (copies : ℕ) (p : Places) (cells : List ℕ) (j : ℕ) → j < mapCells copies → byteAt (mapIn copies p cells) j ≡ getD cells (p .map + j) 0
 map-byte copies p cells j h = getD-take (mapCells copies) (drop (p .map) cells) j 0 h ∙ getD-drop (p .map) cells j 0
+
+pub map-part : (p : Places) (cells : List ℕ) → take (p .map + 24 - p .map) (drop (p .map) cells) ≡ mapIn 2 p cells
+map-part p cells = ap (λ (n : ℕ). take n (drop (p .map) cells)) (add-sub-cancel-left (p .map) 24)
 
 -- the map of an image of some length has some length
 map-length : (copies : ℕ) (p : Places) (one other : List ℕ) → length one ≡ length other → length (mapIn copies p one) ≡ length (mapIn copies p other)
 map-length copies p one other e = simp (length-take, length-drop) (rw e)
 
-pub map-same : (copies : ℕ) (p : Places) (one other : List ℕ) → length one ≡ length other → ((j : ℕ) → j < mapCells copies → getD one (p .map + j) 0 ≡ getD other (p .map + j) 0) → mapIn copies p one ≡ mapIn copies p other
+pub map-same :
+    (copies : ℕ) (p : Places) (one other : List ℕ) → length one ≡ length other
+    → ((j : ℕ) → j < mapCells copies → getD one (p .map + j) 0 ≡ getD other (p .map + j) 0)
+    → mapIn copies p one ≡ mapIn copies p other
 map-same copies p one other e same =
     ext-getD 0 (mapIn copies p one) (mapIn copies p other) (map-length copies p one other e)
     (λ j l. let h : j < mapCells copies = omega (arith, simp length-take at l) in map-byte copies p one j h ∙ same j h ∙ sym (map-byte copies p other j h))
 
 -- a pointer reads its own bytes alone
-at-same : (kind : Kind) (one other : List ℕ) (from : ℕ) → ((j : ℕ) → from ≤ j → j < from + bytesOf kind → byteAt one j ≡ byteAt other j) → pointerAt kind one from ≡ pointerAt kind other from
+at-same :
+    (kind : Kind) (one other : List ℕ) (from : ℕ)
+    → ((j : ℕ) → from ≤ j → j < from + bytesOf kind → byteAt one j ≡ byteAt other j)
+    → pointerAt kind one from ≡ pointerAt kind other from
 unfolding pointerAt bytesOf
 at-same Low one other from same = rw (same from (omega arith) (omega arith), same (from + 1) (omega arith) (omega arith))
 at-same High one other from same = same from (omega arith) (omega arith)
 
-pub pointer-same : (one other : List ℕ) (k : ℕ) → ((j : ℕ) → offsetOf k ≤ j → j < offsetOf k + bytesOf (kindOf k) → byteAt one j ≡ byteAt other j) → pointerOf one k ≡ pointerOf other k
+pub pointer-same :
+    (one other : List ℕ) (k : ℕ)
+    → ((j : ℕ) → offsetOf k ≤ j → j < offsetOf k + bytesOf (kindOf k) → byteAt one j ≡ byteAt other j)
+    → pointerOf one k ≡ pointerOf other k
 unfolding pointerOf
 pointer-same one other k same = at-same (kindOf k) one other (offsetOf k) same
 
 -- the bytes of an address give the address
-at-put : (kind : Kind) (map : List ℕ) (from a : ℕ) → ((i : ℕ) → i < bytesOf kind → byteAt map (from + i) ≡ getD (pointerBytes kind a) i 0) → pointerAt kind map from ≡ a
+at-put :
+    (kind : Kind) (map : List ℕ) (from a : ℕ)
+    → ((i : ℕ) → i < bytesOf kind → byteAt map (from + i) ≡ getD (pointerBytes kind a) i 0)
+    → pointerAt kind map from ≡ a
 unfolding pointerAt pointerBytes bytesOf
 at-put Low map from a put =
     let low : byteAt map from ≡ a % 256 = rw add-zero at (put 0 (omega arith)) in
@@ -54,7 +68,10 @@ at-put Low map from a put =
     omega arith
 at-put High map from a put = rw add-zero at (put 0 (omega arith))
 
-pub pointer-put : (map : List ℕ) (k a : ℕ) → ((i : ℕ) → i < bytesOf (kindOf k) → byteAt map (offsetOf k + i) ≡ getD (pointerBytes (kindOf k) a) i 0) → pointerOf map k ≡ a
+pub pointer-put :
+    (map : List ℕ) (k a : ℕ)
+    → ((i : ℕ) → i < bytesOf (kindOf k) → byteAt map (offsetOf k + i) ≡ getD (pointerBytes (kindOf k) a) i 0)
+    → pointerOf map k ≡ a
 unfolding pointerOf
 pointer-put map k a put = at-put (kindOf k) map (offsetOf k) a put
 

@@ -8,7 +8,7 @@
 --   slot-there                a slot that holds its byte is left alone
 --   slot-alive                a slot whose cell has life is written there
 --   slot-refused              a slot whose cell refuses the byte is moved
-use Prim.Native.Nat.{ℕ, _+_, _-_, _*_, _≤_, _<_}
+use Prim.Native.Nat.{ℕ, _+_, _≤_, _<_}
 use mathlib.Core.Path.{_≡_, refl, sym, ap, _∙_}
 use mathlib.Core.Bool.{Bool, true, false}
 use mathlib.Core.List.{List, [], _∷_, _++_, append-nil}
@@ -17,17 +17,15 @@ use native.Mathlib.Decide.{ℕ-discrete}
 use native.Mathlib.Omega.{arith}
 use lib.Dec.{eqb}
 use lib.ListN.{length}
-use borrow.Author.Tests.{eq-eqb, ne-eqb}
+use borrow.Author.Tests.{ne-eqb}
 use Rattle.cells.specs.declared.row.Found.{Found}
 use Rattle.cells.specs.declared.row.Found.the-variants.{At, Nowhere}
-use Rattle.cells.specs.Chip.{Chip, cellAt, lifeAt, pick, Paired, Kept}
+use Rattle.cells.specs.Chip.{Chip, cellAt, lifeAt, pick, Paired}
 use Rattle.cells.specs.Run.{Run, Write, write, run, still, _then_, _giving_}
 use Rattle.cells.specs.Log.{askedIn, Within}
 use Rattle.cells.specs.Put.{putAt}
-use Rattle.cells.proofs.Writes.{kept-same, kept-wider}
 use Rattle.cells.proofs.Logs.{every-wider, asked-here, asked-append, asked-all, asked-apart, within-still, within-wider, within-giving, within-then, within-kept}
-use Rattle.cells.proofs.Puts.{Refuses, PutLaws, put-there, put-cost, put-laws}
-use Rattle.counter.specs.declared.map.Kind.{Kind}
+use Rattle.cells.proofs.Puts.{PutLaws, put-there, put-cost, put-laws}
 use Rattle.counter.specs.declared.places.Places.{Places}
 use Rattle.counter.specs.declared.spares.Gap.{Gap}
 use Rattle.counter.specs.declared.verdict.Work.{Work}
@@ -39,10 +37,10 @@ use Rattle.counter.specs.Map.{mapIn, marked, pointerOf}
 use Rattle.counter.specs.Spares.{narrow, gapOf}
 use Rattle.counter.specs.Store.{putPointer, trySpares, moveTo, moveSlot, storeSlot}
 use Rattle.counter.proofs.SoundPointers.{Inside, Sound}
-use Rattle.counter.proofs.Gaps.{Between, between-map, between-unique, between-moved, Free, Spare, free-spare, spare-fresh, sound-joined}
+use Rattle.counter.proofs.Gaps.{between-map, between-unique, between-moved, Free, Spare, free-spare, spare-fresh, sound-joined}
 use Rattle.counter.proofs.Ready.{pointers, dataOf, Ready, Own, ready-kept, map-kept}
-use Rattle.counter.proofs.Pointers.{OfPointer, of-map, of-elsewhere, PointerLaws, pointer-laws}
-use Rattle.counter.proofs.Tries.{room, Missing, Landing, Trying, Trying.missing, Trying.landing, TryLaws, try-laws}
+use Rattle.counter.proofs.Pointers.{of-map, of-elsewhere, PointerLaws, pointer-laws}
+use Rattle.counter.proofs.Tries.{room, Missing, Landing, Trying, Trying.missing, Trying.landing, try-laws}
 
 abbrev pub gapAt : ℕ → Places → Chip → Gap
 gapAt copies p s = gapOf copies p (pointers copies p s)
@@ -80,11 +78,11 @@ module _ (copies : ℕ) (p : Places) (k b : ℕ) (s : Chip) where
   abbrev tries : Run Found
   tries = trySpares k (gapAt copies p s) b s
 
-  move-missing : tries .answer ≡ Nowhere → moveSlot copies p k b s ≡ tries then still (Stopped (NoSpare k)) (tries .after)
+  pub move-missing : tries .answer ≡ Nowhere → moveSlot copies p k b s ≡ tries then still (Stopped (NoSpare k)) (tries .after)
   unfolding moveSlot moveTo
   move-missing e = rw e
 
-  move-landing : (a : ℕ) → tries .answer ≡ At a → moveSlot copies p k b s ≡ tries then putPointer p k a (tries .after)
+  pub move-landing : (a : ℕ) → tries .answer ≡ At a → moveSlot copies p k b s ≡ tries then putPointer p k a (tries .after)
   unfolding moveSlot moveTo
   move-landing a e = rw e
 
@@ -99,16 +97,18 @@ module _ {copies : ℕ} {p : Places} {s : Chip} (ready : Ready copies p s) (soun
   tries-asked : askedIn (p .start) (p .end) (tries copies p k b s .log) ≡ length (tries copies p k b s .log)
   tries-asked = asked-all (p .start) (p .end) (every-wider (λ c i. (i .from, i .to)) (tries-within .places))
 
-  missing-laws : Missing k (gapAt copies p s) b s → Moves copies p k b 0 s (tries copies p k b s then still (Stopped (NoSpare k)) (tries copies p k b s .after))
+  missing-laws :
+      Missing k (gapAt copies p s) b s
+      → Moves copies p k b 0 s (tries copies p k b s then still (Stopped (NoSpare k)) (tries copies p k b s .after))
   missing-laws m =
-      record
-        { within = within-then (within-wider (λ c i. inr i) tries-within) (within-still _ _)
-        ; mark = rw (m .same)
-        ; others = λ j h d. rw (m .same)
-        ; bounded = let h = m .cost in let h′ = tries-asked in rw append-nil (omega arith)
-        ; settles = λ e. not-done e
-        ; ended = roomless k refl
-        }
+      record {
+        within = within-then (within-wider (λ c i. inr i) tries-within) (within-still _ _);
+        mark = rw (m .same);
+        others = λ j h d. rw (m .same);
+        bounded = let h = m .cost in let h′ = tries-asked in rw append-nil (omega arith);
+        settles = λ e. not-done e;
+        ended = roomless k refl;
+      }
 
   module _ (m : Landing k (gapAt copies p s) b s) where
     abbrev landed : Chip
@@ -146,23 +146,23 @@ module _ {copies : ℕ} {p : Places} {s : Chip} (ready : Ready copies p s) (soun
 
     landing-settles : puts .answer ≡ Done → Settles copies p k b 0 s (tries copies p k b s then puts)
     landing-settles e =
-        record
-          { sound = sound-joined (pointers copies p (puts .after)) sound (spare (m .free)) (pointing .held e) (λ j h d. (h, sym (landing-others j h d)))
-          ; held = ap (cellAt (puts .after)) (pointing .held e) ∙ area-kept (m .place) (spare (m .free) .inside) ∙ m .held
-          ; kept = λ j h d. ap (cellAt (puts .after)) (landing-others j h d) ∙ area-kept _ (sound .inside j h) ∙ m .kept .cell _ (spare-fresh (spare (m .free)) j h)
-          ; paid = let h = m .cost in let h₁ = landing-asked in let h₂ = narrowed e in omega arith
-          }
+        record {
+          sound = sound-joined (pointers copies p (puts .after)) sound (spare (m .free)) (pointing .held e) (λ j h d. (h, sym (landing-others j h d)));
+          held = ap (cellAt (puts .after)) (pointing .held e) ∙ area-kept (m .place) (spare (m .free) .inside) ∙ m .held;
+          kept = λ j h d. ap (cellAt (puts .after)) (landing-others j h d) ∙ area-kept _ (sound .inside j h) ∙ m .kept .cell _ (spare-fresh (spare (m .free)) j h);
+          paid = let h = m .cost in let h₁ = landing-asked in let h₂ = narrowed e in omega arith;
+        }
 
     landing-laws : Moves copies p k b 0 s (tries copies p k b s then puts)
     landing-laws =
-        record
-          { within = within-then (within-wider (λ c i. inr i) tries-within) (within-wider (λ c o. inl (of-map ready k l o)) (pointing .within))
-          ; mark = pointing .mark ∙ ap marked landed-map
-          ; others = landing-others
-          ; bounded = let h = m .cost in let h₁ = landing-asked in omega arith
-          ; settles = landing-settles
-          ; ended = ends (pointing .either)
-          }
+        record {
+          within = within-then (within-wider (λ c i. inr i) tries-within) (within-wider (λ c o. inl (of-map ready k l o)) (pointing .within));
+          mark = pointing .mark ∙ ap marked landed-map;
+          others = landing-others;
+          bounded = let h = m .cost in let h₁ = landing-asked in omega arith;
+          settles = landing-settles;
+          ended = ends (pointing .either);
+        }
       where
         ends : (puts .answer ≡ Done) ⊎ ((x : ℕ) × (puts .answer ≡ Stopped (MapByte x))) → Ended (puts .answer)
         ends (inl e) = done e
@@ -185,7 +185,7 @@ module _ (copies : ℕ) (p : Places) (k b : ℕ) (s : Chip) where
   abbrev first : Run Bool
   first = putAt (pointers copies p s k) b s
 
-  slot-held : first .answer ≡ true → storeSlot copies p k b s ≡ first giving Done
+  pub slot-held : first .answer ≡ true → storeSlot copies p k b s ≡ first giving Done
   unfolding storeSlot
   slot-held e = rw e
 
@@ -202,7 +202,9 @@ module _ (copies : ℕ) (p : Places) (k b : ℕ) (s : Chip) where
   slot-alive paired h = slot-held (put-laws (pointers copies p s k) b s paired .alive h)
 
   -- a slot whose cell refuses the byte is moved
-  pub slot-refused : Paired s → first .answer ≡ false → storeSlot copies p k b s ≡ run false (write (pointers copies p s k) b ∷ []) 0 s then moveSlot copies p k b s
+  pub slot-refused :
+      Paired s → first .answer ≡ false
+      → storeSlot copies p k b s ≡ run false (write (pointers copies p s k) b ∷ []) 0 s then moveSlot copies p k b s
   slot-refused paired e = slot-failed e ∙ ap (λ (r : Run Bool). r then moveSlot copies p k b (r .after)) (put-laws (pointers copies p s k) b s paired .unchanged e)
 
   -- what the put at the slot's cell asks
@@ -231,40 +233,42 @@ module _ {copies : ℕ} {p : Places} {s : Chip} (ready : Ready copies p s) (soun
 
   held-settles : first copies p k b s .answer ≡ true → Settles copies p k b (change (dataOf copies p s k) b) s (first copies p k b s giving Done)
   held-settles e =
-      record
-        { sound = rw put-map sound
-        ; held = rw put-map (put .held e)
-        ; kept = λ j h d. rw put-map (put .kept .cell (pointers copies p s j) (sound .apart j k h l d))
-        ; paid = let h = put-asked in rw put-map (omega arith)
-        }
+      record {
+        sound = rw put-map sound;
+        held = rw put-map (put .held e);
+        kept = λ j h d. rw put-map (put .kept .cell (pointers copies p s j) (sound .apart j k h l d));
+        paid = let h = put-asked in rw put-map (omega arith);
+      }
 
   held-laws : first copies p k b s .answer ≡ true → Moves copies p k b (change (dataOf copies p s k) b) s (first copies p k b s giving Done)
   held-laws e =
-      record
-        { within = within-giving Done (within-wider (λ c i. inr i) put-inside)
-        ; mark = ap marked put-map
-        ; others = λ j h d. ap (λ (map : List ℕ). pointerOf map j) put-map
-        ; bounded = let h = put-asked in omega arith
-        ; settles = λ q. held-settles e
-        ; ended = done refl
-        }
+      record {
+        within = within-giving Done (within-wider (λ c i. inr i) put-inside);
+        mark = ap marked put-map;
+        others = λ j h d. ap (λ (map : List ℕ). pointerOf map j) put-map;
+        bounded = let h = put-asked in omega arith;
+        settles = λ q. held-settles e;
+        ended = done refl;
+      }
 
   -- the write that failed, asked of a cell of the area
   asked-first : (log : List Write) → askedIn (p .start) (p .end) (write (pointers copies p s k) b ∷ log) ≡ 1 + askedIn (p .start) (p .end) log
   asked-first log = asked-here (p .start) (p .end) (write (pointers copies p s k) b) log (sound .inside k l .from) (sound .inside k l .to)
 
-  moved-laws : first copies p k b s .answer ≡ false → Moves copies p k b 1 s (run false (write (pointers copies p s k) b ∷ []) 0 s then moveSlot copies p k b s)
+  moved-laws :
+      first copies p k b s .answer ≡ false
+      → Moves copies p k b 1 s (run false (write (pointers copies p s k) b ∷ []) 0 s then moveSlot copies p k b s)
   moved-laws e =
       let m = move-laws ready sound k l b in
       let asked = asked-first (moveSlot copies p k b s .log) in
-      record
-        { within = within-then (within-wider (λ c i. inr i) (rw (put .unchanged e) at put-inside)) (m .within)
-        ; mark = m .mark
-        ; others = m .others
-        ; bounded = let h = m .bounded in omega arith
-        ; settles = λ q. let t = m .settles q in record { sound = t .sound; held = t .held; kept = t .kept; paid = let h = t .paid in omega arith }
-        ; ended = m .ended
-        }
+      record {
+        within = within-then (within-wider (λ c i. inr i) (rw (put .unchanged e) at put-inside)) (m .within);
+        mark = m .mark;
+        others = m .others;
+        bounded = let h = m .bounded in omega arith;
+        settles = λ q. let t = m .settles q in record { sound = t .sound; held = t .held; kept = t .kept; paid = let h = t .paid in omega arith };
+        ended = m .ended;
+      }
 
   pub slot-laws : Moves copies p k b (change (dataOf copies p s k) b) s (storeSlot copies p k b s)
   slot-laws = go (first copies p k b s .answer) refl

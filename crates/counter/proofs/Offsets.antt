@@ -7,14 +7,11 @@
 --   low-inside, high-inside   so do the two bytes of a Low one, and the one of a High one
 --   offset-low, offset-high   where it starts, by its kind
 --   pointer-low, pointer-high a pointer by its bytes
-use Prim.Native.Nat.{ℕ, zero, suc, _+_, _*_, _/_, _%_, _≤_, _<_}
-use mathlib.Core.Path.{_≡_, refl, sym}
-use mathlib.Core.Bool.{Bool, true, false}
-use mathlib.Core.List.{List, [], _∷_}
+use Prim.Native.Nat.{ℕ, _+_, _*_, _/_, _%_, _≤_, _<_}
+use mathlib.Core.Path.{_≡_, refl}
 use mathlib.Core.Logic.{_⊎_, inl, inr}
-use native.Mathlib.Decide.{decLt, le-ind}
+use native.Mathlib.Decide.{decLt}
 use native.Mathlib.Omega.{arith}
-use lib.Dec.{ltb}
 use lib.ListN.{length}
 use borrow.Author.Tests.{lt-ltb, le-ltb}
 use Rattle.counter.specs.declared.map.Kind.{Kind}
@@ -22,6 +19,7 @@ use Rattle.counter.specs.declared.map.Kind.the-variants.{High, Low}
 use Rattle.counter.specs.Slots.{slots, kindOf}
 use Rattle.counter.specs.Places.{mapCells}
 use Rattle.counter.specs.Map.{byteAt, offsetIn, offsetOf, pointerAt, pointerOf, pointerBytes}
+use mathlib.Core.List.{List}
 
 pub kind-low : (k : ℕ) → k % 8 < 3 → kindOf k ≡ Low
 unfolding kindOf

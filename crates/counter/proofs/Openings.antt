@@ -5,46 +5,41 @@
 --   Opened                    what a first opening comes to where it is done
 --   Opens, opening-laws       the laws of a first opening
 --   zero-code                 the code of 0 is what every slot holds at count 0
-use Prim.Native.Nat.{ℕ, zero, suc, _+_, _-_, _*_, _/_, _%_, _^_, _≤_, _<_}
+use Prim.Native.Nat.{ℕ, _%_, zero, suc, _+_, _≤_, _<_}
 use mathlib.Core.Path.{_≡_, refl, sym, ap, _∙_}
-use mathlib.Core.Bool.{Bool, true, false}
-use mathlib.Core.List.{List, [], _∷_, _++_}
+use mathlib.Core.Bool.{true}
+use mathlib.Core.List.{List, [], _∷_}
 use mathlib.Core.Logic.{_⊎_, inl, inr}
-use native.Mathlib.Nat.{add-zero, zero-add, zero-div}
-use native.Mathlib.Decide.{ℕ-discrete}
+use native.Mathlib.Nat.{add-zero, zero-add}
 use native.Mathlib.Omega.{arith}
 use lib.ListN.{length, getD}
 use Rattle.code.specs.Codes.{codeOf}
 use Rattle.code.specs.Gray.{grayOf}
 use Rattle.code.specs.Nibbles.{nibbleOf}
-use Rattle.cells.specs.declared.row.Way.the-variants.{Up}
-use Rattle.cells.specs.declared.row.Found.{Found}
 use Rattle.cells.specs.declared.row.Found.the-variants.{Nowhere}
-use Rattle.cells.specs.Chip.{Chip, cellAt, Paired, Kept}
-use Rattle.cells.specs.Run.{Run, still, _then_, _giving_}
+use Rattle.cells.specs.Chip.{Chip, cellAt}
+use Rattle.cells.specs.Run.{Run, _then_, _giving_}
 use Rattle.cells.specs.Log.{Within}
-use Rattle.cells.specs.Row.{putRow, InRow}
+use Rattle.cells.specs.Row.{putRow}
 use Rattle.cells.proofs.Logs.{within-still, within-wider, within-giving, within-then, within-kept}
 use Rattle.cells.proofs.Rows.{RowLaws, row-laws}
 use Rattle.counter.specs.declared.places.Places.{Places}
 use Rattle.counter.specs.declared.verdict.Work.{Work}
 use Rattle.counter.specs.declared.verdict.Work.the-variants.{Done, Stopped}
-use Rattle.counter.specs.declared.verdict.Refusal.{Refusal}
 use Rattle.counter.specs.declared.verdict.Refusal.the-variants.{NoSpare, MapByte}
-use Rattle.counter.specs.Slots.{slots, kindOf}
-use Rattle.counter.specs.Places.{mapCells}
-use Rattle.counter.specs.Map.{mapIn, byteAt, marked, markBytes, offsetOf, pointerOf}
+use Rattle.counter.specs.Slots.{slots}
+use Rattle.counter.specs.Map.{mapIn, byteAt, marked, markBytes}
 use Rattle.counter.specs.Spares.{wholeArea}
 use Rattle.counter.specs.Verdict.{_andThen_}
 use Rattle.counter.specs.Store.{slotCode, putPointer, mapped}
 use Rattle.counter.specs.Opening.{Taken, takeFrom, putPointers, putMark, untried, firstOpening}
-use Rattle.counter.proofs.Offsets.{bytesOf, offset-first, offset-inside}
+use Rattle.counter.proofs.CodeMore.{gray-zero, nibble-zero}
+use Rattle.counter.proofs.Offsets.{offset-first, offset-inside}
 use Rattle.counter.proofs.SoundPointers.{Inside, Sound, sound-none}
 use Rattle.counter.proofs.Gaps.{between-none}
 use Rattle.counter.proofs.MapBytes.{map-byte, pointer-same, mark-put}
-use Rattle.counter.proofs.Ready.{pointers, dataOf, Ready, ready-placed, InMap, Own, ready-kept, byte-kept, map-kept}
-use Rattle.counter.proofs.Settings.{map-outside}
-use Rattle.counter.proofs.Pointers.{OfPointer, of-map, PointerLaws, pointer-laws, mapped-done, mapped-either}
+use Rattle.counter.proofs.Ready.{pointers, dataOf, Ready, InMap, Own, ready-kept, byte-kept, apart-map}
+use Rattle.counter.proofs.Pointers.{of-map, PointerLaws, pointer-laws, mapped-done, mapped-either}
 use Rattle.counter.proofs.Moves.{not-done, Ended, Ended.done, Ended.roomless, Ended.unmapped}
 use Rattle.counter.proofs.Stores.{done-then, stopped-then}
 use Rattle.counter.proofs.Takes.{InGap, AllTaken, Takes, take-laws}
@@ -66,52 +61,59 @@ pub record Points (copies : ℕ) (p : Places) (addresses : List ℕ) (k : ℕ) (
 module _ (copies : ℕ) (p : Places) where
   -- one pointer, and then the rest
   points-then :
-    (a : ℕ) (rest : List ℕ) (k : ℕ) (s : Chip) (q : Run Work)
-    → Ready copies p s
-    → k + suc (length rest) ≤ slots copies
-    → putPointer p k a s .answer ≡ Done
-    → Points copies p rest (k + 1) (putPointer p k a s .after) q
-    → Points copies p (a ∷ rest) k s (putPointer p k a s then q)
+      (a : ℕ) (rest : List ℕ) (k : ℕ) (s : Chip) (q : Run Work)
+      → Ready copies p s
+      → k + suc (length rest) ≤ slots copies
+      → putPointer p k a s .answer ≡ Done
+      → Points copies p rest (k + 1) (putPointer p k a s .after) q
+      → Points copies p (a ∷ rest) k s (putPointer p k a s then q)
   points-then a rest k s q ready fits e points =
-      record
-        { within = within-then (within-wider (λ c o. of-map ready k (omega arith) o) (laws .within)) (points .within)
-        ; tried = let h = laws .tried in let h′ = points .tried in omega arith
-        ; earlier = λ j l. points .earlier j (omega arith) ∙ laws .others j (omega arith) (λ q. omega arith)
-        ; pointed = here
-        ; ended = points .ended
-        }
+      record {
+        within = within-then (within-wider (λ c o. of-map ready k (omega arith) o) (laws .within)) (points .within);
+        tried = let h = laws .tried in let h′ = points .tried in omega arith;
+        earlier = λ j l. points .earlier j (omega arith) ∙ laws .others j (omega arith) (λ q. omega arith);
+        pointed = here;
+        ended = points .ended;
+      }
     where
       laws : PointerLaws copies p k a s
       laws = pointer-laws ready k (omega arith) a
+
       here : q .answer ≡ Done → (j : ℕ) → j < suc (length rest) → pointers copies p (q .after) (k + j) ≡ getD (a ∷ rest) j 0
       here d zero l = rw add-zero (points .earlier k (omega arith) ∙ laws .held e)
       here d (suc j) l = let h : k + suc j ≡ k + 1 + j = omega arith in rw h (points .pointed d j (omega arith))
 
   -- a pointer that stops ends it
   points-stop :
-    (a : ℕ) (rest : List ℕ) (k : ℕ) (s : Chip) (x : ℕ)
-    → Ready copies p s
-    → k + suc (length rest) ≤ slots copies
-    → putPointer p k a s .answer ≡ Stopped (MapByte x)
-    → Points copies p (a ∷ rest) k s (putPointer p k a s)
+      (a : ℕ) (rest : List ℕ) (k : ℕ) (s : Chip) (x : ℕ)
+      → Ready copies p s
+      → k + suc (length rest) ≤ slots copies
+      → putPointer p k a s .answer ≡ Stopped (MapByte x)
+      → Points copies p (a ∷ rest) k s (putPointer p k a s)
   points-stop a rest k s x ready fits e =
       let laws = pointer-laws ready k (omega arith) a in
-      record
-        { within = within-wider (λ c o. of-map ready k (omega arith) o) (laws .within)
-        ; tried = laws .tried
-        ; earlier = λ j l. laws .others j (omega arith) (λ q. omega arith)
-        ; pointed = λ d. not-done (sym e ∙ d)
-        ; ended = failed x e
-        }
+      record {
+        within = within-wider (λ c o. of-map ready k (omega arith) o) (laws .within);
+        tried = laws .tried;
+        earlier = λ j l. laws .others j (omega arith) (λ q. omega arith);
+        pointed = λ d. not-done (sym e ∙ d);
+        ended = failed x e;
+      }
 
-  pub points-laws : (addresses : List ℕ) (k : ℕ) (s : Chip) → Ready copies p s → k + length addresses ≤ slots copies → Points copies p addresses k s (putPointers addresses k p s)
+  pub points-laws :
+      (addresses : List ℕ) (k : ℕ) (s : Chip) → Ready copies p s → k + length addresses ≤ slots copies
+      → Points copies p addresses k s (putPointers addresses k p s)
   unfolding putPointers
   points-laws [] k s ready fits = record { within = within-still Done s; tried = refl; earlier = λ j l. refl; pointed = λ d j l. absurd (omega arith); ended = put refl }
   points-laws (a ∷ rest) k s ready fits = go (laws .either) (points-laws rest (k + 1) (putPointer p k a s .after) (ready-kept ready (within-kept (laws .within))) (omega arith))
     where
       laws : PointerLaws copies p k a s
       laws = pointer-laws ready k (omega arith) a
-      go : (putPointer p k a s .answer ≡ Done) ⊎ ((x : ℕ) × (putPointer p k a s .answer ≡ Stopped (MapByte x))) → Points copies p rest (k + 1) (putPointer p k a s .after) (putPointers rest (k + 1) p (putPointer p k a s .after)) → Points copies p (a ∷ rest) k s (putPointer p k a s andThen putPointers rest (k + 1) p)
+
+      go :
+          (putPointer p k a s .answer ≡ Done) ⊎ ((x : ℕ) × (putPointer p k a s .answer ≡ Stopped (MapByte x)))
+          → Points copies p rest (k + 1) (putPointer p k a s .after) (putPointers rest (k + 1) p (putPointer p k a s .after))
+          → Points copies p (a ∷ rest) k s (putPointer p k a s andThen putPointers rest (k + 1) p)
       go (inl e) points = rw (done-then (putPointer p k a s) _ e) (points-then a rest k s _ ready fits e points)
       go (inr (x, e)) points = rw (stopped-then (putPointer p k a s) _ _ e) (points-stop a rest k s x ready fits e)
 
@@ -128,21 +130,31 @@ module _ {copies : ℕ} {p : Places} {s : Chip} (ready : Ready copies p s) where
   row : RowLaws markBytes (p .map) s
   row = row-laws markBytes (p .map) s (ready .paired)
 
-  mark-byte : putRow markBytes (p .map) s .answer ≡ Nowhere → (j : ℕ) → j < 2 → byteAt (mapIn copies p (putRow markBytes (p .map) s .after .cells)) j ≡ getD markBytes j 0
+  mark-byte :
+      putRow markBytes (p .map) s .answer ≡ Nowhere → (j : ℕ) → j < 2
+      → byteAt (mapIn copies p (putRow markBytes (p .map) s .after .cells)) j ≡ getD markBytes j 0
   mark-byte e j l = map-byte copies p _ j (omega arith) ∙ row .held e j l
 
   pub mark-laws : MarkLaws copies p s
   unfolding putMark
   mark-laws =
-      record
-        { within = within-giving _ (within-wider (λ c i. record { from = i .0; to = let h = i .1 in omega arith }) (row .within))
-        ; tried = row .tried
-        ; pointed = λ j l. pointer-same _ _ j (λ i from to. let h = offset-first j in let h′ = offset-inside copies j l in byte-kept ready (row .kept) i (omega arith) (λ o. let u = o .1 in omega arith))
-        ; marks = λ e. mark-put _ (mark-byte (mapped-done _ e) 0 (omega arith)) (mark-byte (mapped-done _ e) 1 (omega arith))
-        ; ended = ends (mapped-either (putRow markBytes (p .map) s .answer))
-        }
+      record {
+        within = within-giving _ (within-wider (λ c i. record { from = i .0; to = let h = i .1 in omega arith }) (row .within));
+        tried = row .tried;
+        pointed = stays;
+        marks = λ e. mark-put _ (mark-byte (mapped-done _ e) 0 (omega arith)) (mark-byte (mapped-done _ e) 1 (omega arith));
+        ended = ends (mapped-either (putRow markBytes (p .map) s .answer));
+      }
     where
-      ends : (mapped (putRow markBytes (p .map) s .answer) ≡ Done) ⊎ ((x : ℕ) × (mapped (putRow markBytes (p .map) s .answer) ≡ Stopped (MapByte x))) → MapEnded (mapped (putRow markBytes (p .map) s .answer))
+      stays : (j : ℕ) → j < slots copies → pointers copies p (putRow markBytes (p .map) s .after) j ≡ pointers copies p s j
+      stays j l =
+          let h = offset-first j in
+          let h′ = offset-inside copies j l in
+          pointer-same _ _ j (λ i from to. byte-kept ready (row .kept) i (omega arith) (λ o. let u = o .1 in omega arith))
+
+      ends :
+          (mapped (putRow markBytes (p .map) s .answer) ≡ Done) ⊎ ((x : ℕ) × (mapped (putRow markBytes (p .map) s .answer) ≡ Stopped (MapByte x)))
+          → MapEnded (mapped (putRow markBytes (p .map) s .answer))
       ends (inl e) = put e
       ends (inr (x, e)) = failed x e
 
@@ -164,26 +176,26 @@ module _ {copies : ℕ} {p : Places} {s : Chip} (ready : Ready copies p s) (addr
 
   maps-done : pointing .answer ≡ Done → Maps copies p addresses s (pointing then putMark p (pointing .after))
   maps-done e =
-      record
-        { within = within-then (points .within) (laws .within)
-        ; tried = let h = points .tried in let h′ = laws .tried in omega arith
-        ; pointed = λ d j l. laws .pointed j l ∙ (rw zero-add at (points .pointed e j (omega arith)))
-        ; marks = laws .marks
-        ; ended = laws .ended
-        }
+      record {
+        within = within-then (points .within) (laws .within);
+        tried = let h = points .tried in let h′ = laws .tried in omega arith;
+        pointed = λ d j l. laws .pointed j l ∙ (rw zero-add at (points .pointed e j (omega arith)));
+        marks = laws .marks;
+        ended = laws .ended;
+      }
     where
       laws : MarkLaws copies p (pointing .after)
       laws = mark-laws (ready-kept ready (within-kept (points .within)))
 
   maps-stop : (x : ℕ) → pointing .answer ≡ Stopped (MapByte x) → Maps copies p addresses s pointing
   maps-stop x e =
-      record
-        { within = points .within
-        ; tried = points .tried
-        ; pointed = λ d. not-done (sym e ∙ d)
-        ; marks = λ d. not-done (sym e ∙ d)
-        ; ended = points .ended
-        }
+      record {
+        within = points .within;
+        tried = points .tried;
+        pointed = λ d. not-done (sym e ∙ d);
+        marks = λ d. not-done (sym e ∙ d);
+        ended = points .ended;
+      }
 
   pub maps-laws : Maps copies p addresses s (putPointers addresses 0 p s andThen putMark p)
   maps-laws = go (points .ended)
@@ -229,24 +241,24 @@ module _ {copies : ℕ} {p : Places} {s : Chip} (ready : Ready copies p s) where
 
     -- the cells of the area stay while the map is put
     area-kept : (c : ℕ) → Inside p c → cellAt (mapping (taking .after) .after) c ≡ cellAt (taking .after) c
-    area-kept c i = within-kept (maps .within) .cell c (λ o. let h = o .from in let h′ = o .to in map-outside (ready-placed ready) (c - p .map) c (omega arith) (i .from) (i .to) (omega arith))
+    area-kept c i = within-kept (maps .within) .cell c (λ o. apart-map ready o i)
 
     opening-opened : mapping (taking .after) .answer ≡ Done → Opened copies p (mapping (taking .after) .after)
     opening-opened e =
-        record
-          { sound = rw zero-add at (t .sound p (pointers copies p (mapping (taking .after) .after)) (λ j l. rw zero-add (maps .pointed e j l)) (between-none p _) (sound-none p _))
-          ; marks = maps .marks e
-          ; held = λ j l. ap (cellAt (mapping (taking .after) .after)) (maps .pointed e j l) ∙ area-kept _ (whole-inside p _ (t .inside j l)) ∙ t .held j l
-          }
+        record {
+          sound = rw zero-add at (t .sound p (pointers copies p (mapping (taking .after) .after)) (λ j l. rw zero-add (maps .pointed e j l)) (between-none p _) (sound-none p _));
+          marks = maps .marks e;
+          held = λ j l. ap (cellAt (mapping (taking .after) .after)) (maps .pointed e j l) ∙ area-kept _ (whole-inside p _ (t .inside j l)) ∙ t .held j l;
+        }
 
     opening-done : Opens copies p s ((taking giving taking .answer .work) then mapping (taking .after))
     opening-done =
-        record
-          { within = within-then taking-within (within-wider (λ c i. inl i) (maps .within))
-          ; tried = let h = maps .tried in omega arith
-          ; opened = opening-opened
-          ; ended = ends (maps .ended)
-          }
+        record {
+          within = within-then taking-within (within-wider (λ c i. inl i) (maps .within));
+          tried = let h = maps .tried in omega arith;
+          opened = opening-opened;
+          ended = ends (maps .ended);
+        }
       where
         ends : {w : Work} → MapEnded w → Ended w
         ends (put e) = done e
@@ -259,11 +271,13 @@ module _ {copies : ℕ} {p : Places} {s : Chip} (ready : Ready copies p s) where
   unfolding firstOpening
   opening-laws = go (takes .either)
     where
-      go : (taking .answer .work ≡ Done) ⊎ ((j : ℕ) × (taking .answer .work ≡ Stopped (NoSpare j))) → Opens copies p s ((taking giving taking .answer .work) andThen mapping)
+      go :
+          (taking .answer .work ≡ Done) ⊎ ((j : ℕ) × (taking .answer .work ≡ Stopped (NoSpare j)))
+          → Opens copies p s ((taking giving taking .answer .work) andThen mapping)
       go (inl e) = rw (done-then (taking giving taking .answer .work) mapping e) (opening-done (takes .all e))
       go (inr (k, e)) = rw (stopped-then (taking giving taking .answer .work) mapping _ e) (opening-stop k e)
 
 -- what every slot holds at count 0
 pub zero-code : (k : ℕ) → slotCode 0 k ≡ codeOf 0
-unfolding slotCode grayOf nibbleOf
-zero-code k = rw zero-div
+unfolding slotCode
+zero-code k = ap codeOf (ap (λ (w : ℕ). nibbleOf w (k % 8)) gray-zero ∙ nibble-zero (k % 8))

@@ -3,37 +3,28 @@
 --   of-map, of-elsewhere      it is a cell of the map, and none of the area
 --   mapped-done, mapped-either  how a row of map bytes ends
 --   PointerLaws, pointer-laws
-use Prim.Native.Nat.{ℕ, _+_, _-_, _*_, _≤_, _<_}
+use Prim.Native.Nat.{ℕ, _+_, _≤_, _<_}
 use mathlib.Core.Path.{_≡_, refl, sym, ap, _∙_}
-use mathlib.Core.Bool.{Bool, true, false}
-use mathlib.Core.List.{List}
 use mathlib.Core.Logic.{_⊎_, inl, inr}
 use native.Mathlib.Nat.{add-assoc}
 use native.Mathlib.Decide.{decLt}
 use native.Mathlib.Omega.{arith}
-use lib.ListN.{length, getD}
-use Rattle.cells.specs.declared.row.Way.the-variants.{Up}
 use Rattle.cells.specs.declared.row.Found.{Found}
 use Rattle.cells.specs.declared.row.Found.the-variants.{At, Nowhere}
-use Rattle.cells.specs.Chip.{Chip, cellAt, Paired, Kept}
-use Rattle.cells.specs.Run.{Run, _giving_}
+use Rattle.cells.specs.Chip.{Chip, cellAt}
 use Rattle.cells.specs.Log.{Within}
-use Rattle.cells.specs.Row.{putRow, InRow}
+use Rattle.cells.specs.Row.{putRow}
 use Rattle.cells.proofs.Logs.{within-wider, within-giving, within-kept}
 use Rattle.cells.proofs.Rows.{RowLaws, row-laws}
 use Rattle.counter.specs.declared.places.Places.{Places}
-use Rattle.counter.specs.declared.verdict.Work.{Work}
 use Rattle.counter.specs.declared.verdict.Work.the-variants.{Done, Stopped}
-use Rattle.counter.specs.declared.verdict.Refusal.the-variants.{NoSpare, MapByte}
+use Rattle.counter.specs.declared.verdict.Refusal.the-variants.{MapByte}
 use Rattle.counter.specs.Slots.{slots, kindOf}
-use Rattle.counter.specs.Places.{mapCells}
-use Rattle.counter.specs.Map.{mapIn, byteAt, marked, offsetOf, pointerOf, pointerBytes}
+use Rattle.counter.specs.Map.{mapIn, byteAt, marked, offsetOf, pointerBytes}
 use Rattle.counter.specs.Store.{putPointer, mapped}
-use Rattle.counter.proofs.Settings.{map-outside}
 use Rattle.counter.proofs.Offsets.{bytesOf, bytes-length, offset-first, offset-before, offset-inside}
-use Rattle.counter.proofs.SoundPointers.{Inside}
 use Rattle.counter.proofs.MapBytes.{map-byte, pointer-same, pointer-put, mark-same}
-use Rattle.counter.proofs.Ready.{pointers, Ready, ready-placed, InMap, byte-kept}
+use Rattle.counter.proofs.Ready.{pointers, Ready, InMap, byte-kept, apart-map}
 
 pub record OfPointer (p : Places) (k a : ℕ) : Type 0 where
   pub from : p .map + offsetOf k ≤ a
@@ -67,10 +58,7 @@ module _ {copies : ℕ} {p : Places} {s : Chip} (ready : Ready copies p s) (k : 
       record { from = omega arith; to = omega arith }
 
   pub of-elsewhere : {c : ℕ} → OfPointer p k c → p .start ≤ c → c ≤ p .end → ⊥
-  of-elsewhere {c} o from to =
-      let h = of-map o .to in
-      let h′ = of-map o .from in
-      map-outside (ready-placed ready) (c - p .map) c (omega arith) from to (omega arith)
+  of-elsewhere o from to = apart-map ready (of-map o) (record { from = from; to = to })
 
   -- the bytes of another slot's pointer are no cells of this one's
   apart : (j i : ℕ) → (j ≡ k → ⊥) → offsetOf j ≤ i → i < offsetOf j + bytesOf (kindOf j) → OfPointer p k (p .map + i) → ⊥
@@ -81,33 +69,51 @@ module _ {copies : ℕ} {p : Places} {s : Chip} (ready : Ready copies p s) (k : 
       go (no h) = let e = offset-before k j (omega arith) in let h′ = o .to in omega arith
 
   module _ (a : ℕ) where
+    row : RowLaws (pointerBytes (kindOf k) a) (p .map + offsetOf k) s
+    row = row-laws (pointerBytes (kindOf k) a) (p .map + offsetOf k) s (ready .paired)
+
     put-in : Within (OfPointer p k) s (putPointer p k a s)
     unfolding putPointer
     put-in =
         let e = bytes-length (kindOf k) a in
-        within-giving _ (within-wider (λ c i. record { from = i .0; to = let h = i .1 in omega arith }) (row-laws (pointerBytes (kindOf k) a) (p .map + offsetOf k) s (ready .paired) .within))
+        within-giving _ (within-wider (λ c i. record { from = i .0; to = let h = i .1 in omega arith }) (row .within))
 
     put-held : putPointer p k a s .answer ≡ Done → pointers copies p (putPointer p k a s .after) k ≡ a
     unfolding putPointer
     put-held e =
-        let row = row-laws (pointerBytes (kindOf k) a) (p .map + offsetOf k) s (ready .paired) in
         let h = offset-inside copies k l in
         let size = bytes-length (kindOf k) a in
         pointer-put _ k a
-        (λ i m. map-byte copies p _ (offsetOf k + i) (omega arith) ∙ ap (λ (c : ℕ). cellAt (putRow (pointerBytes (kindOf k) a) (p .map + offsetOf k) s .after) c) (sym (add-assoc (p .map) (offsetOf k) i)) ∙ row .held (mapped-done _ e) i (omega arith))
+        (λ i m.
+        map-byte copies p _ (offsetOf k + i) (omega arith)
+        ∙ ap (cellAt (putRow (pointerBytes (kindOf k) a) (p .map + offsetOf k) s .after)) (sym (add-assoc (p .map) (offsetOf k) i))
+        ∙ row .held (mapped-done _ e) i (omega arith))
+
+    -- the pointers of other slots stay, and the bytes in front of all pointers
+    put-others : (j : ℕ) → j < slots copies → (j ≡ k → ⊥) → pointers copies p (putPointer p k a s .after) j ≡ pointers copies p s j
+    put-others j m d =
+        let h = offset-inside copies j m in
+        pointer-same _ _ j (λ i from to. byte-kept ready (within-kept put-in) i (omega arith) (apart j i d from to))
+
+    put-mark : marked (mapIn copies p (putPointer p k a s .after .cells)) ≡ marked (mapIn copies p (s .cells))
+    put-mark = mark-same _ _ (byte 0 (omega arith)) (byte 1 (omega arith))
+      where
+        byte : (j : ℕ) → j < 2 → byteAt (mapIn copies p (putPointer p k a s .after .cells)) j ≡ byteAt (mapIn copies p (s .cells)) j
+        byte j m = let h = offset-first k in byte-kept ready (within-kept put-in) j (omega arith) (λ o. let h′ = o .from in omega arith)
 
     pub pointer-laws : PointerLaws copies p k a s
     pointer-laws =
-        record
-          { within = put-in
-          ; tried = none
-          ; held = put-held
-          ; others = λ j m d. pointer-same _ _ j (λ i from to. let h = offset-inside copies j m in byte-kept ready (within-kept put-in) i (omega arith) (apart j i d from to))
-          ; mark = let h = offset-first k in mark-same _ _ (byte-kept ready (within-kept put-in) 0 (omega arith) (λ o. let h′ = o .from in omega arith)) (byte-kept ready (within-kept put-in) 1 (omega arith) (λ o. let h′ = o .from in omega arith))
-          ; either = answers
-          }
+        record {
+          within = put-in;
+          tried = none;
+          held = put-held;
+          others = put-others;
+          mark = put-mark;
+          either = answers;
+        }
       where
         none : putPointer p k a s .tried ≡ 0
-        none = unfold putPointer in row-laws (pointerBytes (kindOf k) a) (p .map + offsetOf k) s (ready .paired) .tried
+        none = unfold putPointer in row .tried
+
         answers : (putPointer p k a s .answer ≡ Done) ⊎ ((x : ℕ) × (putPointer p k a s .answer ≡ Stopped (MapByte x)))
         answers = unfold putPointer in mapped-either (putRow (pointerBytes (kindOf k) a) (p .map + offsetOf k) s .answer)

@@ -4,22 +4,29 @@
 --   every-all, all-every      the test holds of each number below n
 --   every-not                 a number of which it does not hold
 --   none-some                 the test holds of no number below n
---   none-lowest               the test holds of none of the n numbers from k on
+--   none-lowest, lowest-none  the test holds of none of the n numbers from k on
+--   Lowest, lowest-at         the lowest of which it holds
 --   tabulate-same             two functions with the same values
 --   never                     a test that cannot hold fails
 --   every-more                one number more
---   lowest-here, lowest-on, lowest-end  a search from k on
-use Prim.Native.Nat.{ℕ, zero, suc, _+_, _≤_, _<_}
-use mathlib.Core.Path.{_≡_, refl, sym, ap, ap₂, _∙_}
+--   lowest-here, lowest-on    a search that finds, or goes on to the next number
+--   every-same, some-same, lowest-same  of another test with the same values
+--   tabulate-filled           a list with a function's values
+use Prim.Native.Nat.{ℕ, zero, suc, _+_, _-_, _≤_, _<_}
+use mathlib.Core.Path.{_≡_, refl, ap₂, sym, ap, _∙_}
 use mathlib.Core.Bool.{Bool, true, false}
-use mathlib.Core.List.{List, [], _∷_}
+use mathlib.Core.List.{_∷_, List}
 use mathlib.Core.Logic.{_⊎_, inl, inr}
 use native.Mathlib.Decide.{ℕ-discrete}
 use native.Mathlib.Omega.{arith}
-use Rattle.cells.specs.declared.row.Found.{Found}
 use Rattle.cells.specs.declared.row.Found.the-variants.{At, Nowhere}
 use Rattle.counter.specs.Slots.{_and_, _or_, every, some, lowest, tabulate}
 use native.Mathlib.Numerals.{add-one}
+use native.Mathlib.Nat.{add-zero, zero-add}
+use Rattle.cells.specs.declared.row.Found.{Found}
+use lib.ListN.{length, getD}
+use lib.Seq.{ext-getD}
+use Rattle.cells.specs.Chip.{pick}
 
 pub and-true : (a b : Bool) → a and b ≡ true → (a ≡ true) × (b ≡ true)
 and-true true b h = (refl, h)
@@ -39,6 +46,7 @@ every-all (suc n) test h k l = go (every-all n test (both .0) k) (ℕ-discrete k
   where
     both : (every n test ≡ true) × (test n ≡ true)
     both = and-true (every n test) (test n) h
+
     go : (k < n → test k ≡ true) → Dec (k ≡ n) → test k ≡ true
     go below (yes e) = rw e (both .1)
     go below (no d) = below (omega arith)
@@ -65,6 +73,41 @@ unfolding lowest
 none-lowest zero k test h = refl
 none-lowest (suc n) k test h = rw (h k (omega arith) (omega arith)) (none-lowest n (k + 1) test (λ j l u. h j (omega arith) (omega arith)))
 
+-- the lowest number of which the test holds: it holds of none before it
+pub record Lowest (n k : ℕ) (test : ℕ → Bool) (j : ℕ) : Type 0 where
+  pub from : k ≤ j
+  pub to : j < k + n
+  pub holds : test j ≡ true
+  pub first : (i : ℕ) → k ≤ i → i < j → test i ≡ false
+
+pub lowest-at : (n k : ℕ) (test : ℕ → Bool) (j : ℕ) → lowest n k test ≡ At j → Lowest n k test j
+unfolding lowest
+lowest-at zero k test j e = let z : _≡_ {A = ℕ} 0 1 = cc in absurd (omega arith)
+lowest-at (suc n) k test j e = go (lowest-at n (k + 1) test j) (test k) refl
+  where
+    go : (lowest n (k + 1) test ≡ At j → Lowest n (k + 1) test j) → (t : Bool) → test k ≡ t → Lowest (suc n) k test j
+    go later true h = let q : At k ≡ At j = (rw h at e) in let r : k ≡ j = cc in record { from = omega arith; to = omega arith; holds = rw r at h; first = λ i l u. absurd (omega arith) }
+    go later false h =
+        let x = later (rw h at e) in
+        record { from = let y = x .from in omega arith; to = let y = x .to in omega arith; holds = x .holds; first = λ i l u. before x h i l u (ℕ-discrete i k) }
+      where
+        before : Lowest n (k + 1) test j → test k ≡ false → (i : ℕ) → k ≤ i → i < j → Dec (i ≡ k) → test i ≡ false
+        before x h i l u (yes q) = rw q h
+        before x h i l u (no d) = x .first i (omega arith) u
+
+pub lowest-none : (n k : ℕ) (test : ℕ → Bool) → lowest n k test ≡ Nowhere → (j : ℕ) → k ≤ j → j < k + n → test j ≡ false
+unfolding lowest
+lowest-none zero k test e j l u = absurd (omega arith)
+lowest-none (suc n) k test e j l u = go (lowest-none n (k + 1) test) (test k) refl
+  where
+    go : (lowest n (k + 1) test ≡ Nowhere → (j : ℕ) → k + 1 ≤ j → j < k + 1 + n → test j ≡ false) → (t : Bool) → test k ≡ t → test j ≡ false
+    go later true h = let q : At k ≡ Nowhere = (rw h at e) in let z : _≡_ {A = ℕ} 0 1 = cc in absurd (omega arith)
+    go later false h = here (later (rw h at e)) (ℕ-discrete j k)
+      where
+        here : ((j : ℕ) → k + 1 ≤ j → j < k + 1 + n → test j ≡ false) → Dec (j ≡ k) → test j ≡ false
+        here rest (yes q) = rw q h
+        here rest (no d) = rest j (omega arith) (omega arith)
+
 pub tabulate-same : (n k : ℕ) (f g : ℕ → ℕ) → ((j : ℕ) → k ≤ j → j < k + n → f j ≡ g j) → tabulate n k f ≡ tabulate n k g
 unfolding tabulate
 tabulate-same zero k f g h = refl
@@ -78,3 +121,48 @@ never false h = refl
 pub every-more : (n : ℕ) (test : ℕ → Bool) → every n test ≡ true → test n ≡ true → every (n + 1) test ≡ true
 unfolding every
 every-more n test below here = rw (add-one n) (true-and (every n test) (test n) below here)
+
+module _ (m n : ℕ) (test : ℕ → Bool) (l : n < m) where
+  left : m - n ≡ suc (m - (n + 1))
+  left = omega arith
+
+  pub lowest-here : test n ≡ true → lowest (m - n) n test ≡ At n
+  unfolding lowest
+  lowest-here h = rw (left, h)
+
+  pub lowest-on : test n ≡ false → lowest (m - n) n test ≡ lowest (m - (n + 1)) (n + 1) test
+  unfolding lowest
+  lowest-on h = ap (λ (r : ℕ). lowest r n test) left ∙ rw h
+
+pub every-same : (n : ℕ) (f g : ℕ → Bool) → ((k : ℕ) → k < n → f k ≡ g k) → every n f ≡ every n g
+unfolding every
+every-same zero f g h = refl
+every-same (suc n) f g h = ap₂ _and_ (every-same n f g (λ k l. h k (omega arith))) (h n (omega arith))
+
+pub some-same : (n : ℕ) (f g : ℕ → Bool) → ((k : ℕ) → k < n → f k ≡ g k) → some n f ≡ some n g
+unfolding some
+some-same zero f g h = refl
+some-same (suc n) f g h = ap₂ _or_ (some-same n f g (λ k l. h k (omega arith))) (h n (omega arith))
+
+pub lowest-same : (n k : ℕ) (f g : ℕ → Bool) → ((j : ℕ) → k ≤ j → j < k + n → f j ≡ g j) → lowest n k f ≡ lowest n k g
+unfolding lowest
+lowest-same zero k f g h = refl
+lowest-same (suc n) k f g h =
+    ap₂ (λ (b : Bool) (r : Found). pick b (At k) r) (h k (omega arith) (omega arith))
+    (lowest-same n (k + 1) f g (λ j l u. h j (omega arith) (omega arith)))
+
+tabulate-length : (n k : ℕ) (f : ℕ → ℕ) → length (tabulate n k f) ≡ n
+unfolding tabulate
+tabulate-length zero k f = refl
+tabulate-length (suc n) k f = ap suc (tabulate-length n (k + 1) f)
+
+tabulate-at : (n k : ℕ) (f : ℕ → ℕ) (j : ℕ) → j < n → getD (tabulate n k f) j 0 ≡ f (k + j)
+unfolding tabulate
+tabulate-at zero k f j l = absurd (omega arith)
+tabulate-at (suc n) k f zero l = ap f (sym (add-zero k))
+tabulate-at (suc n) k f (suc j) l = tabulate-at n (k + 1) f j (omega arith) ∙ ap f (omega arith)
+
+pub tabulate-filled : (xs : List ℕ) (n : ℕ) (f : ℕ → ℕ) → length xs ≡ n → ((k : ℕ) → k < n → getD xs k 0 ≡ f k) → xs ≡ tabulate n 0 f
+tabulate-filled xs n f e h =
+    ext-getD 0 xs (tabulate n 0 f) (e ∙ sym (tabulate-length n 0 f))
+    (λ k l. h k (omega arith) ∙ ap f (sym (zero-add k)) ∙ sym (tabulate-at n 0 f k (omega arith)))

@@ -1,24 +1,22 @@
 -- Cells to turns: bytes that are the codes of a count read as that count, with lag 0.
 --   count-read                the count of each copy
 --   weigh-exact               what the bytes of all slots read as
-use Prim.Native.Nat.{ℕ, zero, suc, _+_, _-_, _*_, _%_, _^_, _≤_, _<_}
-use mathlib.Core.Path.{_≡_, refl, sym, ap, ap₂, _∙_}
-use mathlib.Core.Bool.{Bool, true, false}
+use Prim.Native.Nat.{ℕ, _+_, _-_, _*_, _%_, _^_, _≤_, _<_}
+use mathlib.Core.Path.{_≡_, ap, _∙_}
+use mathlib.Core.Bool.{false}
 use mathlib.Core.List.{List}
 use native.Mathlib.Omega.{arith}
-use lib.IntN.{ℤ, pos, +ℤ-invr}
-use lib.Dec.{leb}
-use Rattle.code.specs.Codes.{codeOf}
+use lib.IntN.{pos, +ℤ-invr}
 use Rattle.code.specs.Readings.{readingOf, twofold, isLost, nibbleRead}
 use Rattle.code.specs.Gray.{grayOf, countOf}
 use Rattle.code.specs.Nibbles.{nibbleOf, wordOf}
 use Rattle.code.proofs.GrayLaws.{gray-small, count-of-gray}
 use Rattle.code.proofs.NibbleLaws.{word-of-nibbles}
-use Rattle.code.proofs.ReadingLaws.{code-small, no-twofold, nibble-round, nibble-kept}
+use Rattle.code.proofs.CodeLaws.{code-small}
+use Rattle.code.proofs.ReadingLaws.{no-twofold, nibble-round, nibble-kept}
 use Rattle.cells.specs.declared.row.Found.the-variants.{Nowhere}
-use Rattle.counter.specs.declared.verdict.Verdict.{Verdict}
-use Rattle.counter.specs.declared.verdict.Verdict.the-variants.{Good, Refused}
-use Rattle.counter.specs.Slots.{slots, every, some, lowest, tabulate}
+use Rattle.counter.specs.declared.verdict.Verdict.the-variants.{Good}
+use Rattle.counter.specs.Slots.{slots, lowest, tabulate}
 use Rattle.counter.specs.Store.{slotCode}
 use Rattle.counter.specs.Reading.{nibbleIn, countIn, close, decide, twofoldAt, lostAt, weigh}
 use Rattle.counter.proofs.RangeTests.{every-not, none-some, none-lowest, tabulate-same}
@@ -62,12 +60,16 @@ module _ (copies : ℕ) {c : ℕ} {byte : ℕ → ℕ} (small : c < 2 ^ 32) (exa
       ∙ count-of-gray c small
 
   none-twofold : lowest 8 0 (twofoldAt copies byte) ≡ Nowhere
-  none-twofold = none-lowest 8 0 (twofoldAt copies byte) (λ n from to. none-some copies (λ copy. twofold (byte (8 * copy + n))) (λ copy l. ap twofold (exact (8 * copy + n) (slot-in copy n l (omega arith))) ∙ slot-single c (8 * copy + n)))
+  none-twofold = none-lowest 8 0 (twofoldAt copies byte) (λ n from to. none-some copies _ (λ copy l. single copy n l (omega arith)))
+    where
+      single : (copy n : ℕ) → copy < copies → n < 8 → twofold (byte (8 * copy + n)) ≡ false
+      single copy n l m = ap twofold (exact (8 * copy + n) (slot-in copy n l m)) ∙ slot-single c (8 * copy + n)
 
   none-lost : 1 ≤ copies → lowest 8 0 (lostAt copies (λ k. readingOf (byte k))) ≡ Nowhere
-  none-lost one =
-      none-lowest 8 0 (lostAt copies (λ k. readingOf (byte k)))
-      (λ n from to. every-not copies (λ copy. isLost (readingOf (byte (8 * copy + n)))) 0 one (ap (λ (b : ℕ). isLost (readingOf b)) (exact (8 * 0 + n) (slot-in 0 n one (omega arith))) ∙ slot-kept c (8 * 0 + n)))
+  none-lost one = none-lowest 8 0 (lostAt copies (λ k. readingOf (byte k))) (λ n from to. every-not copies _ 0 one (told n (omega arith)))
+    where
+      told : (n : ℕ) → n < 8 → isLost (readingOf (byte (8 * 0 + n))) ≡ false
+      told n m = ap (λ (b : ℕ). isLost (readingOf b)) (exact (8 * 0 + n) (slot-in 0 n one m)) ∙ slot-kept c (8 * 0 + n)
 
   pub weigh-exact : 1 ≤ copies → weigh copies byte ≡ Good c (pos 0)
   unfolding weigh

@@ -7,16 +7,16 @@
 --   byte-kept                 a map byte stays where its cell does
 --   map-kept                  the map stays where only area cells change
 --   inside-cell               a cell of the area is a cell of the image
-use Prim.Native.Nat.{ℕ, _+_, _-_, _*_, _≤_, _<_}
-use mathlib.Core.Path.{_≡_, refl, sym, ap, _∙_}
-use mathlib.Core.Bool.{Bool, true, false}
-use mathlib.Core.List.{List}
-use mathlib.Core.Logic.{_⊎_, inl, inr}
+--   apart-map                 and none of the map
+--   start-fits                the area starts before it ends
+use Prim.Native.Nat.{ℕ, _+_, _-_, _≤_, _<_}
+use mathlib.Core.Path.{_≡_, refl, sym, _∙_}
+use mathlib.Core.Bool.{true}
+use mathlib.Core.Logic.{_⊎_}
 use native.Mathlib.Omega.{arith}
-use lib.ListN.{length, getD}
+use lib.ListN.{length}
 use Rattle.cells.specs.Chip.{Chip, cellAt, Paired, Kept}
 use Rattle.counter.specs.declared.places.Places.{Places}
-use Rattle.counter.specs.Slots.{slots}
 use Rattle.counter.specs.Places.{mapCells, lengthGood, placesGood}
 use Rattle.counter.specs.Map.{mapIn, byteAt, pointerOf}
 use Rattle.counter.proofs.Settings.{Placed, good-placed, map-outside}
@@ -48,19 +48,28 @@ module _ {copies : ℕ} {p : Places} {s : Chip} (ready : Ready copies p s) where
   pub inside-cell : {a : ℕ} → Inside p a → a < length (s .cells)
   inside-cell i = let h = ready-placed .endFits in let h′ = i .to in omega arith
 
+  -- no cell is of the map and of the area
+  pub apart-map : {a : ℕ} → InMap copies p a → Inside p a → ⊥
+  apart-map {a} m i =
+      let h = m .from in
+      let h′ = m .to in
+      map-outside ready-placed (a - p .map) a (omega arith) (i .from) (i .to) (omega arith)
+
   pub start-fits : p .start ≤ p .end + 1
   start-fits = let h = ready-placed .large in omega arith
 
   module _ {Place : ℕ → Type 0} {t : Chip} (kept : Kept Place s t) where
     pub ready-kept : Ready copies p t
     ready-kept =
-        record
-          { paired = kept .lives-length ∙ ready .paired ∙ sym (kept .cells-length)
-          ; long = rw (kept .cells-length) (ready .long)
-          ; good = rw (kept .cells-length) (ready .good)
-          }
+        record {
+          paired = kept .lives-length ∙ ready .paired ∙ sym (kept .cells-length);
+          long = rw (kept .cells-length) (ready .long);
+          good = rw (kept .cells-length) (ready .good);
+        }
 
-    pub byte-kept : (j : ℕ) → j < mapCells copies → (Place (p .map + j) → ⊥) → byteAt (mapIn copies p (t .cells)) j ≡ byteAt (mapIn copies p (s .cells)) j
+    pub byte-kept :
+        (j : ℕ) → j < mapCells copies → (Place (p .map + j) → ⊥)
+        → byteAt (mapIn copies p (t .cells)) j ≡ byteAt (mapIn copies p (s .cells)) j
     byte-kept j l n = map-byte copies p (t .cells) j l ∙ kept .cell (p .map + j) n ∙ sym (map-byte copies p (s .cells) j l)
 
   pub map-kept : {t : Chip} → Kept (Inside p) s t → mapIn copies p (t .cells) ≡ mapIn copies p (s .cells)

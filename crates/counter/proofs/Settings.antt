@@ -1,20 +1,20 @@
 -- Good lengths and place settings, as facts of arithmetic.
+--   length-good               what a good length says
 --   Placed                    what good place settings say
 --   good-placed               the test turned into it
 --   map-outside               no map cell is a cell of the area
 --   not-placed                the test that fails
 use Prim.Native.Nat.{ℕ, _+_, _-_, _*_, _≤_, _<_}
 use mathlib.Core.Path.{_≡_, refl}
-use mathlib.Core.Bool.{Bool, true, false}
+use mathlib.Core.Bool.{true, Bool, false}
 use mathlib.Core.Logic.{_⊎_, inl, inr}
 use native.Mathlib.Omega.{arith}
 use lib.Dec.{leb, ltb}
 use borrow.Author.Tests.{leb-true, ltb-true, le-leb, lt-ltb}
 use Rattle.counter.specs.declared.places.Places.{Places}
-use Rattle.counter.specs.Slots.{slots, _and_, _or_}
-use Rattle.counter.specs.Places.{mapCells, placesGood}
-use Rattle.counter.proofs.RangeTests.{and-true, true-and, or-true}
-use Rattle.counter.proofs.RangeTests.{never}
+use Rattle.counter.specs.Slots.{_or_, slots}
+use Rattle.counter.specs.Places.{mapCells, lengthGood, placesGood}
+use Rattle.counter.proofs.RangeTests.{and-true, or-true, never}
 
 pub record Placed (copies n : ℕ) (p : Places) : Type 0 where
   pub mapLow : 1 ≤ p .map
@@ -34,19 +34,27 @@ good-placed copies n p h =
     let h₄ = and-true (ltb (p .end) n) _ (h₃ .1) in
     let h₅ = and-true (leb (p .start) (256 - 5 * copies)) _ (h₄ .1) in
     let h₆ = and-true (leb (p .start + slots copies) (p .end + 1)) _ (h₅ .1) in
-    record
-      { mapLow = leb-true _ _ (h₁ .0)
-      ; startLow = leb-true _ _ (h₂ .0)
-      ; mapFits = leb-true _ _ (h₃ .0)
-      ; endFits = ltb-true _ _ (h₄ .0)
-      ; startReaches = leb-true _ _ (h₅ .0)
-      ; large = leb-true _ _ (h₆ .0)
-      ; apart = side (or-true _ _ (h₆ .1))
-      }
+    record {
+      mapLow = leb-true _ _ (h₁ .0);
+      startLow = leb-true _ _ (h₂ .0);
+      mapFits = leb-true _ _ (h₃ .0);
+      endFits = ltb-true _ _ (h₄ .0);
+      startReaches = leb-true _ _ (h₅ .0);
+      large = leb-true _ _ (h₆ .0);
+      apart = side (or-true _ _ (h₆ .1));
+    }
   where
-    side : (leb (p .map + mapCells copies) (p .start) ≡ true) ⊎ (ltb (p .end) (p .map) ≡ true) → (p .map + mapCells copies ≤ p .start) ⊎ (p .end < p .map)
+    side :
+        (leb (p .map + mapCells copies) (p .start) ≡ true) ⊎ (ltb (p .end) (p .map) ≡ true)
+        → (p .map + mapCells copies ≤ p .start) ⊎ (p .end < p .map)
     side (inl x) = inl (leb-true _ _ x)
     side (inr x) = inr (ltb-true _ _ x)
+
+pub length-good : (copies n : ℕ) → lengthGood copies n ≡ true → (1 + mapCells copies + slots copies ≤ n) × (n ≤ 4096)
+unfolding lengthGood
+length-good copies n h =
+    let both = and-true (leb (1 + mapCells copies + slots copies) n) _ h in
+    (leb-true _ _ (both .0), leb-true _ _ (both .1))
 
 -- no map cell is a cell of the area
 pub map-outside : {copies n : ℕ} {p : Places} → Placed copies n p → (j a : ℕ) → j < mapCells copies → p .start ≤ a → a ≤ p .end → p .map + j ≡ a → ⊥
@@ -64,13 +72,14 @@ either-true false b (inr h) = h
 pub placed-good : (copies n : ℕ) (p : Places) → Placed copies n p → placesGood copies n p ≡ true
 unfolding placesGood
 placed-good copies n p h =
-    rw
-    (le-leb _ _ (h .mapLow)
-    , le-leb _ _ (h .startLow)
-    , le-leb _ _ (h .mapFits)
-    , lt-ltb _ _ (h .endFits)
-    , le-leb _ _ (h .startReaches)
-    , le-leb _ _ (h .large))
+    rw (
+      le-leb _ _ (h .mapLow),
+      le-leb _ _ (h .startLow),
+      le-leb _ _ (h .mapFits),
+      lt-ltb _ _ (h .endFits),
+      le-leb _ _ (h .startReaches),
+      le-leb _ _ (h .large),
+    )
     (either-true _ _ (side (h .apart)))
   where
     side : (p .map + mapCells copies ≤ p .start) ⊎ (p .end < p .map) → (leb (p .map + mapCells copies) (p .start) ≡ true) ⊎ (ltb (p .end) (p .map) ≡ true)

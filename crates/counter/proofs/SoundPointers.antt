@@ -6,19 +6,20 @@
 --   sound-same                of another function with the same values
 --   sound-fewer               of fewer slots
 --   below-apart               different from every earlier one is different from every other
-use Prim.Native.Nat.{ℕ, zero, suc, _+_, _*_, _≤_, _<_}
-use mathlib.Core.Path.{_≡_, refl, sym, ap, _∙_}
-use mathlib.Core.Bool.{Bool, true, false, not}
+--   sound-agree               pointers that agree on all slots are sound alike
+use Prim.Native.Nat.{ℕ, _≤_, _<_}
+use mathlib.Core.Path.{_≡_, refl, sym, ap, _∙_, ap₂}
+use mathlib.Core.Bool.{true, not}
 use native.Mathlib.Decide.{decLt}
 use native.Mathlib.Omega.{arith}
-use lib.Dec.{leb, ltb, eqb}
+use lib.Dec.{leb, eqb}
 use borrow.Author.Tests.{leb-true, ltb-true, eqb-false, not-true, le-leb, lt-ltb, ne-eqb}
 use Rattle.counter.specs.declared.map.Kind.{Kind}
 use Rattle.counter.specs.declared.map.Kind.the-variants.{High, Low}
 use Rattle.counter.specs.declared.places.Places.{Places}
 use Rattle.counter.specs.Slots.{slots, kindOf, every, _and_}
 use Rattle.counter.specs.Map.{inArea, reachable, inOrder, sound}
-use Rattle.counter.proofs.RangeTests.{and-true, true-and, every-all, all-every}
+use Rattle.counter.proofs.RangeTests.{and-true, true-and, every-all, all-every, every-same}
 
 pub record Inside (p : Places) (a : ℕ) : Type 0 where
   pub from : p .start ≤ a
@@ -64,7 +65,9 @@ order-test Low Low a b h = refl
 order-test Low High a b h = refl
 
 -- different from every earlier one is different from every other
-pub below-apart : {n : ℕ} {pointer : ℕ → ℕ} → ((i j : ℕ) → i < j → j < n → pointer i ≡ pointer j → ⊥) → (i j : ℕ) → i < n → j < n → (i ≡ j → ⊥) → pointer i ≡ pointer j → ⊥
+pub below-apart :
+    {n : ℕ} {pointer : ℕ → ℕ} → ((i j : ℕ) → i < j → j < n → pointer i ≡ pointer j → ⊥) → (i j : ℕ) → i < n
+    → j < n → (i ≡ j → ⊥) → pointer i ≡ pointer j → ⊥
 below-apart {n} {pointer} below i j l m d e = go (decLt i j)
   where
     go : Dec (i < j) → ⊥
@@ -78,12 +81,12 @@ module _ (copies : ℕ) (p : Places) (pointer : ℕ → ℕ) where
       let h₁ = and-true (every (slots copies) (λ k. inArea p (pointer k))) _ h in
       let h₂ = and-true (every (slots copies) (λ k. reachable (kindOf k) (pointer k))) _ (h₁ .1) in
       let h₃ = and-true (every (slots copies) (λ j. every j (λ i. not (eqb (pointer i) (pointer j))))) _ (h₂ .1) in
-      record
-        { inside = λ k l. test-inside p (pointer k) (every-all _ _ (h₁ .0) k l)
-        ; reach = λ k l. test-reach (kindOf k) (pointer k) (every-all _ _ (h₂ .0) k l)
-        ; apart = λ i j l m d e. below-apart {pointer = pointer} (λ i j l m. eqb-false _ _ (not-true _ (every-all _ _ (every-all _ _ (h₃ .0) j m) i l))) i j l m d e
-        ; order = λ i j l m. test-order (kindOf i) (kindOf j) (pointer i) (pointer j) (every-all _ _ (every-all _ _ (h₃ .1) i l) j m)
-        }
+      record {
+        inside = λ k l. test-inside p (pointer k) (every-all _ _ (h₁ .0) k l);
+        reach = λ k l. test-reach (kindOf k) (pointer k) (every-all _ _ (h₂ .0) k l);
+        apart = λ i j l m d e. below-apart {pointer = pointer} (λ i j l m. eqb-false _ _ (not-true _ (every-all _ _ (every-all _ _ (h₃ .0) j m) i l))) i j l m d e;
+        order = λ i j l m. test-order (kindOf i) (kindOf j) (pointer i) (pointer j) (every-all _ _ (every-all _ _ (h₃ .1) i l) j m);
+      }
 
   pub sound-test : Sound (slots copies) p pointer → sound copies p pointer ≡ true
   unfolding sound
@@ -95,27 +98,35 @@ module _ (copies : ℕ) (p : Places) (pointer : ℕ → ℕ) where
 
 pub sound-none : (p : Places) (pointer : ℕ → ℕ) → Sound 0 p pointer
 sound-none p pointer =
-    record
-      { inside = λ k l. absurd (omega arith)
-      ; reach = λ k l e. absurd (omega arith)
-      ; apart = λ i j l m d e. omega arith
-      ; order = λ i j l m e f. absurd (omega arith)
-      }
+    record {
+      inside = λ k l. absurd (omega arith);
+      reach = λ k l e. absurd (omega arith);
+      apart = λ i j l m d e. omega arith;
+      order = λ i j l m e f. absurd (omega arith);
+    }
 
 pub sound-same : {n : ℕ} {p : Places} {f : ℕ → ℕ} (g : ℕ → ℕ) → ((k : ℕ) → k < n → f k ≡ g k) → Sound n p f → Sound n p g
 sound-same {n} {p} {f} g same s =
-    record
-      { inside = λ k l. rw (← same k l) (s .inside k l)
-      ; reach = λ k l e. rw (← same k l) (s .reach k l e)
-      ; apart = λ i j l m d e. s .apart i j l m d (same i l ∙ e ∙ sym (same j m))
-      ; order = λ i j l m e e′. rw (← same i l, ← same j m) (s .order i j l m e e′)
-      }
+    record {
+      inside = λ k l. rw (← same k l) (s .inside k l);
+      reach = λ k l e. rw (← same k l) (s .reach k l e);
+      apart = λ i j l m d e. s .apart i j l m d (same i l ∙ e ∙ sym (same j m));
+      order = λ i j l m e e′. rw (← same i l, ← same j m) (s .order i j l m e e′);
+    }
 
 pub sound-fewer : {m n : ℕ} {p : Places} {f : ℕ → ℕ} → m ≤ n → Sound n p f → Sound m p f
 sound-fewer h s =
-    record
-      { inside = λ k l. s .inside k (omega arith)
-      ; reach = λ k l e. s .reach k (omega arith) e
-      ; apart = λ i j l m d e. s .apart i j (omega arith) (omega arith) d e
-      ; order = λ i j l m e e′. s .order i j (omega arith) (omega arith) e e′
-      }
+    record {
+      inside = λ k l. s .inside k (omega arith);
+      reach = λ k l e. s .reach k (omega arith) e;
+      apart = λ i j l m d e. s .apart i j (omega arith) (omega arith) d e;
+      order = λ i j l m e e′. s .order i j (omega arith) (omega arith) e e′;
+    }
+
+pub sound-agree : (copies : ℕ) (p : Places) (one other : ℕ → ℕ) → ((k : ℕ) → k < slots copies → one k ≡ other k) → sound copies p one ≡ sound copies p other
+unfolding sound
+sound-agree copies p one other agree =
+    ap₂ _and_ (every-same _ _ _ (λ k l. ap (inArea p) (agree k l)))
+    (ap₂ _and_ (every-same _ _ _ (λ k l. ap (reachable (kindOf k)) (agree k l)))
+    (ap₂ _and_ (every-same _ _ _ (λ j m. every-same j _ _ (λ i l. ap not (ap₂ eqb (agree i (omega arith)) (agree j m)))))
+    (every-same _ _ _ (λ i l. every-same _ _ _ (λ j m. ap₂ (inOrder (kindOf i) (kindOf j)) (agree i l) (agree j m))))))

@@ -3,29 +3,26 @@
 --   changes                   how many slots hold another byte than they are to hold
 --   Stores                    the laws of storing the n slots from k on
 --   from-laws, store-laws     they hold of storing so
-use Prim.Native.Nat.{ℕ, zero, suc, _+_, _-_, _*_, _≤_, _<_}
+use Prim.Native.Nat.{ℕ, zero, suc, _+_, _≤_, _<_}
 use mathlib.Core.Path.{_≡_, refl, sym, ap, ap₂, _∙_}
-use mathlib.Core.Bool.{Bool, true, false}
-use mathlib.Core.List.{List, [], _∷_, _++_}
-use mathlib.Core.Logic.{_⊎_, inl, inr}
+use mathlib.Core.List.{_++_}
 use native.Mathlib.Decide.{ℕ-discrete}
 use native.Mathlib.Omega.{arith}
-use Rattle.cells.specs.Chip.{Chip, cellAt, lifeAt, Paired, Kept}
-use Rattle.cells.specs.Run.{Run, still, _then_, _giving_}
+use Rattle.cells.specs.Chip.{Chip}
+use Rattle.cells.specs.Run.{Run, still, _then_}
 use Rattle.cells.specs.Log.{askedIn, Within}
 use Rattle.cells.proofs.Logs.{asked-none, asked-append, within-still, within-then, within-kept}
 use Rattle.counter.specs.declared.places.Places.{Places}
 use Rattle.counter.specs.declared.verdict.Work.{Work}
 use Rattle.counter.specs.declared.verdict.Work.the-variants.{Done, Stopped}
 use Rattle.counter.specs.declared.verdict.Refusal.{Refusal}
-use Rattle.counter.specs.declared.verdict.Refusal.the-variants.{NoSpare, MapByte}
-use Rattle.counter.specs.Slots.{slots, kindOf}
-use Rattle.counter.specs.Map.{mapIn, marked, pointerOf}
+use Rattle.counter.specs.Slots.{slots}
+use Rattle.counter.specs.Map.{mapIn, marked}
 use Rattle.counter.specs.Verdict.{_andThen_}
 use Rattle.counter.specs.Store.{slotCode, storeSlot, storeFrom, store}
 use Rattle.counter.proofs.SoundPointers.{Sound}
 use Rattle.counter.proofs.Ready.{pointers, dataOf, Ready, Own, ready-kept}
-use Rattle.counter.proofs.Moves.{roomOf, change, not-done, Ended, Ended.done, Ended.roomless, Ended.unmapped, Settles, Moves, slot-laws, slot-there}
+use Rattle.counter.proofs.Moves.{roomOf, change, not-done, Ended, Ended.done, Ended.roomless, Ended.unmapped, Settles, Moves, slot-laws}
 
 -- ## One piece of storing and then another
 
@@ -69,71 +66,89 @@ module _ (copies : ℕ) (p : Places) (c : ℕ) where
   unfolding changes
   none-laws k s sound =
       let z = asked-none (p .start) (p .end) in
-      record
-        { within = within-still Done s
-        ; mark = refl
-        ; bounded = omega arith
-        ; stored = λ e. record { sound = sound; held = λ j l u. absurd (omega arith); kept = λ j l. refl; paid = omega arith }
-        ; ended = done refl
-        }
+      record {
+        within = within-still Done s;
+        mark = refl;
+        bounded = omega arith;
+        stored = λ e. record { sound = sound; held = λ j l u. absurd (omega arith); kept = λ j l. refl; paid = omega arith };
+        ended = done refl;
+      }
 
   -- a slot that stops ends the storing
-  stopped-laws : (n k : ℕ) (s : Chip) (r : Run Work) (why : Refusal) → r .answer ≡ Stopped why → Moves copies p k (slotCode c k) (change (dataOf copies p s k) (slotCode c k)) s r → Stores copies p (suc n) k c s r
+  stopped-laws :
+      (n k : ℕ) (s : Chip) (r : Run Work) (why : Refusal) → r .answer ≡ Stopped why
+      → Moves copies p k (slotCode c k) (change (dataOf copies p s k) (slotCode c k)) s r
+      → Stores copies p (suc n) k c s r
   unfolding changes
   stopped-laws n k s r why e m =
-      record
-        { within = m .within
-        ; mark = m .mark
-        ; bounded = let h = m .bounded in omega arith
-        ; stored = λ q. not-done (sym e ∙ q)
-        ; ended = m .ended
-        }
+      record {
+        within = m .within;
+        mark = m .mark;
+        bounded = let h = m .bounded in omega arith;
+        stored = λ q. not-done (sym e ∙ q);
+        ended = m .ended;
+      }
 
   -- a slot that is done, and then the rest
-  done-laws : (n k : ℕ) (s : Chip) (r q : Run Work) → k + suc n ≤ slots copies → Moves copies p k (slotCode c k) (change (dataOf copies p s k) (slotCode c k)) s r → r .answer ≡ Done → Stores copies p n (k + 1) c (r .after) q → Stores copies p (suc n) k c s (r then q)
+  done-laws :
+      (n k : ℕ) (s : Chip) (r q : Run Work) → k + suc n ≤ slots copies
+      → Moves copies p k (slotCode c k) (change (dataOf copies p s k) (slotCode c k)) s r → r .answer ≡ Done
+      → Stores copies p n (k + 1) c (r .after) q → Stores copies p (suc n) k c s (r then q)
   unfolding changes
   done-laws n k s r q fits m e rest =
-      record
-        { within = within-then (m .within) (rest .within)
-        ; mark = rest .mark ∙ m .mark
-        ; bounded = let h = rest .bounded in let h′ = t .paid in omega (arith, asked, later)
-        ; stored = λ d. all (rest .stored d)
-        ; ended = rest .ended
-        }
+      record {
+        within = within-then (m .within) (rest .within);
+        mark = rest .mark ∙ m .mark;
+        bounded = let h = rest .bounded in let h′ = t .paid in omega (arith, asked, later);
+        stored = λ d. all (rest .stored d);
+        ended = rest .ended;
+      }
     where
       t : Settles copies p k (slotCode c k) (change (dataOf copies p s k) (slotCode c k)) s r
       t = m .settles e
+
       later : changes n (k + 1) (dataOf copies p (r .after)) (slotCode c) ≡ changes n (k + 1) (dataOf copies p s) (slotCode c)
       later = changes-same n (k + 1) _ _ (slotCode c) (λ j l u. t .kept j (omega arith) (λ q. omega arith))
+
       asked : askedIn (p .start) (p .end) (r .log ++ q .log) ≡ askedIn (p .start) (p .end) (r .log) + askedIn (p .start) (p .end) (q .log)
       asked = asked-append (p .start) (p .end) (r .log) (q .log)
+
       all : Stored copies p n (k + 1) c (r .after) q → Stored copies p (suc n) k c s (r then q)
       all x =
-          record
-            { sound = x .sound
-            ; held = λ j l u. here j l u (ℕ-discrete j k)
-            ; kept = λ j l. x .kept j (omega arith) ∙ t .kept j (omega arith) (λ q. omega arith)
-            ; paid = let h = x .paid in let h′ = t .paid in omega (arith, asked, later)
-            }
+          record {
+            sound = x .sound;
+            held = λ j l u. here j l u (ℕ-discrete j k);
+            kept = λ j l. x .kept j (omega arith) ∙ t .kept j (omega arith) (λ q. omega arith);
+            paid = let h = x .paid in let h′ = t .paid in omega (arith, asked, later);
+          }
         where
           here : (j : ℕ) → k ≤ j → j < k + suc n → Dec (j ≡ k) → dataOf copies p (q .after) j ≡ slotCode c j
           here j l u (yes e) = rw e (x .kept k (omega arith) ∙ t .held)
           here j l u (no d) = x .held j (omega arith) (omega arith)
 
-  pub from-laws : (n k : ℕ) (s : Chip) → k + n ≤ slots copies → Ready copies p s → Sound (slots copies) p (pointers copies p s) → Stores copies p n k c s (storeFrom n k copies p c s)
+  pub from-laws :
+      (n k : ℕ) (s : Chip) → k + n ≤ slots copies → Ready copies p s
+      → Sound (slots copies) p (pointers copies p s) → Stores copies p n k c s (storeFrom n k copies p c s)
   unfolding storeFrom
   from-laws zero k s fits ready sound = none-laws k s sound
   from-laws (suc n) k s fits ready sound = go (slot .ended) (λ e. from-laws n (k + 1) (r .after) (omega arith) (ready-kept ready (within-kept (slot .within))) (slot .settles e .sound))
     where
       r : Run Work
       r = storeSlot copies p k (slotCode c k) s
+
       slot : Moves copies p k (slotCode c k) (change (dataOf copies p s k) (slotCode c k)) s r
       slot = slot-laws ready sound k (omega arith) (slotCode c k)
-      go : Ended (r .answer) → (r .answer ≡ Done → Stores copies p n (k + 1) c (r .after) (storeFrom n (k + 1) copies p c (r .after))) → Stores copies p (suc n) k c s (r andThen storeFrom n (k + 1) copies p c)
+
+      go :
+          Ended (r .answer)
+          → (r .answer ≡ Done → Stores copies p n (k + 1) c (r .after) (storeFrom n (k + 1) copies p c (r .after)))
+          → Stores copies p (suc n) k c s (r andThen storeFrom n (k + 1) copies p c)
       go (done e) rest = rw (done-then r _ e) (done-laws n k s r _ fits slot e (rest e))
       go (roomless j e) rest = rw (stopped-then r _ _ e) (stopped-laws n k s r _ e slot)
       go (unmapped a e) rest = rw (stopped-then r _ _ e) (stopped-laws n k s r _ e slot)
 
-  pub store-laws : (s : Chip) → Ready copies p s → Sound (slots copies) p (pointers copies p s) → Stores copies p (slots copies) 0 c s (store copies p c s)
+  pub store-laws :
+      (s : Chip) → Ready copies p s → Sound (slots copies) p (pointers copies p s)
+      → Stores copies p (slots copies) 0 c s (store copies p c s)
   unfolding store
   store-laws s ready sound = from-laws (slots copies) 0 s (omega arith) ready sound

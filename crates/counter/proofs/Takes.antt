@@ -2,9 +2,9 @@
 --   InGap                     an address lies in a gap
 --   AllTaken                  what the taking comes to where it is done
 --   Takes, take-laws          the laws of taking addresses for the n slots from k on
-use Prim.Native.Nat.{ℕ, zero, suc, _+_, _-_, _*_, _≤_, _<_, min, max}
-use mathlib.Core.Path.{_≡_, refl, sym, ap, subst, _∙_}
-use mathlib.Core.List.{List, [], _∷_, _++_}
+use Prim.Native.Nat.{ℕ, zero, suc, _+_, _≤_, _<_}
+use mathlib.Core.Path.{_≡_, refl, ap, _∙_}
+use mathlib.Core.List.{[], _∷_}
 use mathlib.Core.Logic.{_⊎_, inl, inr}
 use native.Mathlib.Nat.{add-zero}
 use native.Mathlib.Numerals.{add-one}
@@ -22,17 +22,16 @@ use Rattle.counter.specs.declared.map.Kind.{Kind}
 use Rattle.counter.specs.declared.map.Kind.the-variants.{High, Low}
 use Rattle.counter.specs.declared.places.Places.{Places}
 use Rattle.counter.specs.declared.spares.Gap.{Gap}
-use Rattle.counter.specs.declared.verdict.Work.{Work}
 use Rattle.counter.specs.declared.verdict.Work.the-variants.{Done, Stopped}
 use Rattle.counter.specs.declared.verdict.Refusal.the-variants.{NoSpare}
 use Rattle.counter.specs.Slots.{kindOf}
 use Rattle.counter.specs.Spares.{narrow}
 use Rattle.counter.specs.Store.{trySpares}
-use Rattle.counter.specs.Opening.{Taken as TakenRun, taken, onTaken, takeFrom}
+use Rattle.counter.specs.Opening.{Taken as TakenRun, taken, takeFrom}
 use Rattle.counter.proofs.SoundPointers.{Sound}
 use Rattle.counter.proofs.Gaps.{Between, between-more, Free, free-spare, sound-joined}
 use Rattle.counter.proofs.Moves.{not-done}
-use Rattle.counter.proofs.Tries.{Missing, Landing, Trying, Trying.missing, Trying.landing, TryLaws, try-laws}
+use Rattle.counter.proofs.Tries.{Landing, Trying, Trying.missing, Trying.landing, try-laws}
 
 pub record InGap (g : Gap) (a : ℕ) : Type 0 where
   pub from : g .high ≤ a
@@ -44,11 +43,11 @@ pub record AllTaken (n k : ℕ) (g : Gap) (r : Run TakenRun) : Type 0 where
   pub inside : (j : ℕ) → j < n → InGap g (getD (r .answer .addresses) j 0)
   pub held : (j : ℕ) → j < n → cellAt (r .after) (getD (r .answer .addresses) j 0) ≡ codeOf 0
   pub sound :
-    (p : Places) (pointer : ℕ → ℕ)
-    → ((j : ℕ) → j < n → pointer (k + j) ≡ getD (r .answer .addresses) j 0)
-    → Between k p pointer g
-    → Sound k p pointer
-    → Sound (k + n) p pointer
+      (p : Places) (pointer : ℕ → ℕ)
+      → ((j : ℕ) → j < n → pointer (k + j) ≡ getD (r .answer .addresses) j 0)
+      → Between k p pointer g
+      → Sound k p pointer
+      → Sound (k + n) p pointer
 
 pub record Takes (n k : ℕ) (g : Gap) (s : Chip) (r : Run TakenRun) : Type 0 where
   pub within : Within (InGap g) s r
@@ -77,11 +76,11 @@ module _ (n k : ℕ) (g : Gap) (s : Chip) where
   abbrev one-more : ℕ → Run TakenRun
   one-more a = spares then (rest a giving taken (rest a .answer .work) (a ∷ rest a .answer .addresses))
 
-  take-landing : (a : ℕ) → spares .answer ≡ At a → takeFrom (suc n) k g s ≡ one-more a
+  pub take-landing : (a : ℕ) → spares .answer ≡ At a → takeFrom (suc n) k g s ≡ one-more a
   unfolding takeFrom
   take-landing a e = rw e
 
-  take-missing : spares .answer ≡ Nowhere → takeFrom (suc n) k g s ≡ spares then still (taken (Stopped (NoSpare k)) []) (spares .after)
+  pub take-missing : spares .answer ≡ Nowhere → takeFrom (suc n) k g s ≡ spares then still (taken (Stopped (NoSpare k)) []) (spares .after)
   unfolding takeFrom
   take-missing e = rw e
 
@@ -90,11 +89,11 @@ module _ (n k : ℕ) (g : Gap) (s : Chip) where
 
   missing-takes : Paired s → Takes (suc n) k g s (spares then still (taken (Stopped (NoSpare k)) []) (spares .after))
   missing-takes paired =
-      record
-        { within = within-then (spares-within paired) (within-still _ _)
-        ; all = λ e. not-done e
-        ; either = inr (k, refl)
-        }
+      record {
+        within = within-then (spares-within paired) (within-still _ _);
+        all = λ e. not-done e;
+        either = inr (k, refl);
+      }
 
   module _ (m : Landing k g (codeOf 0) s) (t : AllTaken n (k + 1) (narrow (kindOf k) (m .place) g) (rest (m .place)))
       (after : Kept (InGap (narrow (kindOf k) (m .place) g)) (spares .after) (rest (m .place) .after)) where
@@ -106,43 +105,52 @@ module _ (n k : ℕ) (g : Gap) (s : Chip) where
     more-held zero l = after .cell (m .place) (narrow-other (kindOf k) g (m .place)) ∙ m .held
     more-held (suc j) l = t .held j (omega arith)
 
-    more-sound : (p : Places) (pointer : ℕ → ℕ) → ((j : ℕ) → j < suc n → pointer (k + j) ≡ getD (m .place ∷ rest (m .place) .answer .addresses) j 0) → Between k p pointer g → Sound k p pointer → Sound (k + suc n) p pointer
+    more-sound :
+        (p : Places) (pointer : ℕ → ℕ)
+        → ((j : ℕ) → j < suc n → pointer (k + j) ≡ getD (m .place ∷ rest (m .place) .answer .addresses) j 0)
+        → Between k p pointer g → Sound k p pointer → Sound (k + suc n) p pointer
     more-sound p pointer at between sound =
         let here : pointer k ≡ m .place = rw add-zero at (at 0 (omega arith)) in
         let sum : k + 1 + n ≡ k + suc n = omega arith in
         rw sum at
-          (t .sound p pointer
-          (λ j l. let e : k + 1 + j ≡ k + suc j = omega arith in rw e (at (suc j) (omega arith)))
-          (rw add-one (between-more between (m .place) here))
-          (rw add-one (sound-joined pointer sound (free-spare between (m .free)) here (λ j l d. (omega arith, refl)))))
+        (t .sound p pointer
+        (λ j l. let e : k + 1 + j ≡ k + suc j = omega arith in rw e (at (suc j) (omega arith)))
+        (rw add-one (between-more between (m .place) here))
+        (rw add-one (sound-joined pointer sound (free-spare between (m .free)) here (λ j l d. (omega arith, refl)))))
 
     more-taken : AllTaken (suc n) k g (one-more (m .place))
     more-taken =
-        record
-          { many = ap suc (t .many)
-          ; inside = more-inside
-          ; held = more-held
-          ; sound = more-sound
-          }
-
-  landing-takes : Paired s → (m : Landing k g (codeOf 0) s) → Takes n (k + 1) (narrow (kindOf k) (m .place) g) (spares .after) (rest (m .place)) → Takes (suc n) k g s (one-more (m .place))
-  landing-takes paired m t =
-      record
-        { within = within-then (spares-within paired) (within-giving _ (within-wider (λ c i. narrow-inside (kindOf k) g (m .place) c (m .free) i) (t .within)))
-        ; all = λ e. more-taken m (t .all e) (within-kept (t .within))
-        ; either = t .either
+        record {
+          many = ap suc (t .many);
+          inside = more-inside;
+          held = more-held;
+          sound = more-sound;
         }
+
+  landing-takes :
+      Paired s → (m : Landing k g (codeOf 0) s)
+      → Takes n (k + 1) (narrow (kindOf k) (m .place) g) (spares .after) (rest (m .place))
+      → Takes (suc n) k g s (one-more (m .place))
+  landing-takes paired m t =
+      record {
+        within = within-then (spares-within paired) (within-giving _ (within-wider (λ c i. narrow-inside (kindOf k) g (m .place) c (m .free) i) (t .within)));
+        all = λ e. more-taken m (t .all e) (within-kept (t .within));
+        either = t .either;
+      }
 
 pub take-laws : (n k : ℕ) (g : Gap) (s : Chip) → Paired s → Takes n k g s (takeFrom n k g s)
 unfolding takeFrom
 take-laws zero k g s paired =
-    record
-      { within = within-still _ s
-      ; all = λ e. record { many = refl; inside = λ j l. absurd (omega arith); held = λ j l. absurd (omega arith); sound = λ p pointer at between sound. rw add-zero sound }
-      ; either = inl refl
-      }
+    record {
+      within = within-still _ s;
+      all = λ e. record { many = refl; inside = λ j l. absurd (omega arith); held = λ j l. absurd (omega arith); sound = λ p pointer at between sound. rw add-zero sound };
+      either = inl refl;
+    }
 take-laws (suc n) k g s paired = go (try-laws k g (codeOf 0) s paired .trying) (λ m. take-laws n (k + 1) (narrow (kindOf k) (m .place) g) (trySpares k g (codeOf 0) s .after) (kept-paired (m .kept) paired))
   where
-    go : Trying k g (codeOf 0) s → ((m : Landing k g (codeOf 0) s) → Takes n (k + 1) (narrow (kindOf k) (m .place) g) (trySpares k g (codeOf 0) s .after) (rest n k g s (m .place))) → Takes (suc n) k g s (takeFrom (suc n) k g s)
+    go :
+        Trying k g (codeOf 0) s
+        → ((m : Landing k g (codeOf 0) s) → Takes n (k + 1) (narrow (kindOf k) (m .place) g) (trySpares k g (codeOf 0) s .after) (rest n k g s (m .place)))
+        → Takes (suc n) k g s (takeFrom (suc n) k g s)
     go (missing m) later = rw (take-missing n k g s (m .nowhere)) (missing-takes n k g s paired)
     go (landing m) later = rw (take-landing n k g s (m .place) (m .here)) (landing-takes n k g s paired m (later m))

@@ -3,29 +3,27 @@
 --   Missing                   no spare holds: each was asked and refuses, and the chip is as it was
 --   Landing                   a spare holds: the chip is that one put from the start
 --   Trying, TryLaws, try-laws
-use Prim.Native.Nat.{ℕ, _+_, _-_, _*_, _≤_, _<_, min, max}
-use mathlib.Core.Path.{_≡_, refl, sym, ap, _∙_}
-use mathlib.Core.Bool.{Bool, true, false}
-use mathlib.Core.List.{List}
+--   try-nowhere               no spare holds exactly where each refuses
+use Prim.Native.Nat.{ℕ, _+_, _-_, _≤_, _<_}
+use mathlib.Core.Path.{_≡_, sym, ap, _∙_}
+use mathlib.Core.Logic.{_↔_}
 use native.Mathlib.Omega.{arith}
 use lib.ListN.{length, length-append}
-use Rattle.cells.specs.declared.row.Way.{Way}
-use Rattle.cells.specs.declared.row.Way.the-variants.{Up, Down}
+use borrow.Author.Tests.{ne-eqb}
 use Rattle.cells.specs.declared.row.Found.{Found}
 use Rattle.cells.specs.declared.row.Found.the-variants.{At, Nowhere}
 use Rattle.cells.specs.Chip.{Chip, cellAt, Paired, Kept}
 use Rattle.cells.specs.Run.{Run}
 use Rattle.cells.specs.Log.{Within}
-use Rattle.cells.specs.Put.{putAt}
-use Rattle.cells.specs.Row.{walk, nth, InRow, asks}
+use Rattle.cells.specs.Row.{nth, InRow}
 use Rattle.cells.proofs.Logs.{within-wider}
-use Rattle.cells.proofs.Puts.{Refuses, PutLaws, put-laws}
-use Rattle.cells.proofs.Walks.{Missed, Hit, Walking, Walking.missed, Walking.hit, WalkLaws, walk-laws, asks-length}
+use Rattle.cells.proofs.Puts.{Refuses, put-laws}
+use Rattle.cells.proofs.Walks.{Missed, Hit, Walking, Walking.missed, Walking.hit, walk-laws, asks-length}
 use Rattle.counter.specs.declared.map.Kind.{Kind}
 use Rattle.counter.specs.declared.map.Kind.the-variants.{High, Low}
 use Rattle.counter.specs.declared.spares.Gap.{Gap}
 use Rattle.counter.specs.Slots.{kindOf}
-use Rattle.counter.specs.Spares.{gap, narrow, wayOf, nextOf, sparesOf}
+use Rattle.counter.specs.Spares.{narrow, wayOf, nextOf, sparesOf}
 use Rattle.counter.specs.Store.{trySpares}
 use Rattle.counter.proofs.Gaps.{Free, walked-free, free-walked}
 
@@ -44,6 +42,7 @@ pub record Landing (k : ℕ) (g : Gap) (b : ℕ) (s : Chip) : Type 0 where
   pub free : Free (kindOf k) g place
   pub kept : Kept (λ c. c ≡ place) s (trySpares k g b s .after)
   pub held : cellAt (trySpares k g b s .after) place ≡ b
+  pub takes : Refuses place b s → ⊥
   pub cost : length (trySpares k g b s .log) + room (narrow (kindOf k) place g) ≤ room g
 
 pub data Trying (k : ℕ) (g : Gap) (b : ℕ) (s : Chip) : Type 0 where
@@ -81,24 +80,25 @@ module _ (k : ℕ) (g : Gap) (b : ℕ) (s : Chip) (paired : Paired s) where
   landed m =
       let a = nth (wayOf (kindOf k)) (nextOf (kindOf k) g) (m .index) in
       let put = put-laws a b s paired in
-      record
-        { place = a
-        ; here = ap (λ (r : Run Found). r .answer) (m .comes)
-        ; free = walked-free (kindOf k) g (m .index) (m .inside)
-        ; kept = rw (m .comes) (put .kept)
-        ; held = rw (m .comes) (put .held (m .held))
-        ; cost = let h = room-left (kindOf k) g (m .index) (m .inside) in let c = put .cost in rw (m .comes, length-append, asks-length) (omega arith)
-        }
+      record {
+        place = a;
+        here = ap (λ (r : Run Found). r .answer) (m .comes);
+        free = walked-free (kindOf k) g (m .index) (m .inside);
+        kept = rw (m .comes) (put .kept);
+        held = rw (m .comes) (put .held (m .held));
+        takes = λ r. let e = sym (m .held) ∙ put .worn (r .worn) ∙ ne-eqb _ b (r .other) in let z : _≡_ {A = ℕ} 0 1 = cc in omega arith;
+        cost = let h = room-left (kindOf k) g (m .index) (m .inside) in let c = put .cost in rw (m .comes, length-append, asks-length) (omega arith);
+      }
 
   missed-all : Missed (sparesOf (kindOf k) g) (wayOf (kindOf k)) (nextOf (kindOf k) g) b s → Missing k g b s
   unfolding trySpares
   missed-all m =
-      record
-        { nowhere = ap (λ (r : Run Found). r .answer) (m .comes)
-        ; same = ap (λ (r : Run Found). r .after) (m .comes)
-        ; refused = λ a f. let j = free-walked (kindOf k) g a f in rw (j .2) at (m .refused (j .0) (j .1))
-        ; cost = let h = spares-room (kindOf k) g in rw (m .comes, asks-length) h
-        }
+      record {
+        nowhere = ap (λ (r : Run Found). r .answer) (m .comes);
+        same = ap (λ (r : Run Found). r .after) (m .comes);
+        refused = λ a f. let j = free-walked (kindOf k) g a f in rw (j .2) at (m .refused (j .0) (j .1));
+        cost = let h = spares-room (kindOf k) g in rw (m .comes, asks-length) h;
+      }
 
   try-in : Within (Free (kindOf k) g) s (trySpares k g b s)
   unfolding trySpares
@@ -110,3 +110,13 @@ module _ (k : ℕ) (g : Gap) (b : ℕ) (s : Chip) (paired : Paired s) where
       go : Walking (sparesOf (kindOf k) g) (wayOf (kindOf k)) (nextOf (kindOf k) g) b s → Trying k g b s
       go (missed m) = missing (missed-all m)
       go (hit m) = landing (landed m)
+
+-- no spare holds exactly where each refuses
+pub try-nowhere :
+    (k : ℕ) (g : Gap) (b : ℕ) (s : Chip) → Paired s
+    → (trySpares k g b s .answer ≡ Nowhere) ↔ ((a : ℕ) → Free (kindOf k) g a → Refuses a b s)
+try-nowhere k g b s paired = go (try-laws k g b s paired .trying)
+  where
+    go : Trying k g b s → (trySpares k g b s .answer ≡ Nowhere) ↔ ((a : ℕ) → Free (kindOf k) g a → Refuses a b s)
+    go (missing m) = (λ e. m .refused, λ f. m .nowhere)
+    go (landing m) = (λ e. let z : _≡_ {A = ℕ} 0 1 = cc in absurd (omega arith), λ f. absurd (m .takes (f (m .place) (m .free))))

@@ -5,7 +5,6 @@ ghost use Prim.Native.Nat.{ℕ, _<_};
 ghost use lib.ListN.{length, getD};
 ghost use Rattle.counter.specs.Slots.{kindOf};
 ghost use Rattle.counter.specs.Map.{marked, offsetOf, pointerOf};
-
 use code::table::wide;
 
 // High cells hold nibbles 3 to 7, Low cells nibbles 0 to 2.

@@ -1,31 +1,39 @@
 -- `table::entries_of` meets its contract: the bytes passed have their entries.
 use Prim.Native.Nat.{ℕ, _-_, _≤_, _<_}
 use mathlib.Core.Path.{_≡_, refl, ap, _∙_}
+use mathlib.Core.List.{List}
 use borrow.Author.Needs.{needs}
 use native.Mathlib.Omega.{arith}
 use lib.ListN.{length, getD, length-set}
 use Rattle.code.specs.Entries.{entryOf}
 use Rattle.code.proofs.Filled.{all-set}
+use Rattle.code.proofs.ReadingLaws.{entry-at}
 use Rattle.code.proofs.table.entries_of.Statement.{statement}
 use Rattle.code.proofs.table.entries_of.Tie as tie
 
 abbrev Inv-loop : tie.InvT-loop
-Inv-loop bytes table entries₀ k₀ entries k =
-    record
-      { most : k ≤ 16
-      ; size : length entries ≡ 16
-      ; rule : (b : ℕ) → b < 256 → getD table b 0 ≡ entryOf b
-      ; each : (j : ℕ) → j < k → getD entries j 0 ≡ entryOf (getD bytes j 0)
-      }
+Inv-loop bytes table read₀ k₀ read k =
+    record {
+      most : k ≤ 16;
+      size : length read ≡ 16;
+      rule : (b : ℕ) → b < 256 → getD table b 0 ≡ entryOf b;
+      each : (j : ℕ) → j < k → (getD read j 0 ≡ entryOf (getD bytes j 0)) × (getD bytes j 0 < 256);
+    }
 
 abbrev μ-loop : tie.MeasureT-loop
-μ-loop bytes table entries₀ k₀ entries k = 16 - k
+μ-loop bytes table read₀ k₀ read k = 16 - k
 
-table-requires : tie.Need-table-requires Inv-loop μ-loop
-table-requires c κs = search needs
+laid-requires : tie.Need-laid-requires Inv-loop μ-loop
+laid-requires c κs = search needs
 
 loop-holds : tie.Need-loop-holds Inv-loop μ-loop
-loop-holds c = record { most = omega arith; size = refl; rule = c .table .ensures; each = λ j l. absurd (omega arith) }
+loop-holds c =
+    record {
+      most = omega arith;
+      size = refl;
+      rule = λ b h. ap (λ (table : List ℕ). getD table b 0) (c .laid .ensures) ∙ entry-at b h;
+      each = λ j l. absurd (omega arith);
+    }
 
 element-copy-out-wide : tie.Need-element-copy-out-wide Inv-loop μ-loop
 element-copy-out-wide c = search needs
@@ -33,11 +41,11 @@ element-copy-out-wide c = search needs
 wide-requires : tie.Need-wide-requires Inv-loop μ-loop
 wide-requires c κs = search needs
 
-array-read-entries : tie.Need-array-read-entries Inv-loop μ-loop
-array-read-entries c = search needs
+array-read-read : tie.Need-array-read-read Inv-loop μ-loop
+array-read-read c = search needs
 
-array-write-entries : tie.Need-array-write-entries Inv-loop μ-loop
-array-write-entries c = omega arith
+array-write-read : tie.Need-array-write-read Inv-loop μ-loop
+array-write-read c = omega arith
 
 add-k : tie.Need-add-k Inv-loop μ-loop
 add-k c = search needs
@@ -49,13 +57,15 @@ loop-again : tie.Need-loop-again Inv-loop μ-loop
 loop-again c =
     let loop = c .before .before .before .loop in
     let bytes = c .before .before .before .before .before .args .bytes .now in
+    let byte = getD bytes (loop .k) 0 in
+    let small : byte < 256 = omega arith in
     let entry = loop .inv .rule (c .wide .result) (c .wide .ensures .1) ∙ ap entryOf (c .wide .ensures .0) in
-    record
-      { most = omega arith
-      ; size = simp length-set (loop .inv .size)
-      ; rule = loop .inv .rule
-      ; each = all-set (λ j x. x ≡ entryOf (getD bytes j 0)) (loop .entries) (loop .k) _ (omega arith) (loop .inv .each) entry
-      }
+    record {
+      most = omega arith;
+      size = simp length-set (loop .inv .size);
+      rule = loop .inv .rule;
+      each = all-set (λ j x. (x ≡ entryOf (getD bytes j 0)) × (getD bytes j 0 < 256)) (loop .read) (loop .k) _ (omega arith) (loop .inv .each) (entry, small);
+    }
 
 returns : tie.Need-returns Inv-loop μ-loop
 returns c j l = c .before .loop .inv .each j (omega arith)
@@ -66,12 +76,12 @@ entries-of-spec =
     (tie.spec
     Inv-loop
     μ-loop
-    table-requires
+    laid-requires
     loop-holds
     element-copy-out-wide
     wide-requires
-    array-read-entries
-    array-write-entries
+    array-read-read
+    array-write-read
     add-k
     loop-less
     loop-again

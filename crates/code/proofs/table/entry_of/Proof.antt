@@ -1,16 +1,24 @@
--- `table::entry_of` meets its contract.
+-- `table::entry_of` meets its contract: the table holds at each byte its entry.
+use mathlib.Core.Path.{_∙_, ap}
+use mathlib.Core.List.{List}
+use Prim.Native.Nat.{ℕ}
 use borrow.Author.Needs.{needs}
+use lib.ListN.{getD}
+use Rattle.code.proofs.ReadingLaws.{entry-at}
 use Rattle.code.proofs.table.entry_of.Statement.{statement}
 use Rattle.code.proofs.table.entry_of.Tie as tie
 
-table-requires : tie.Need-table-requires
-table-requires c κs = search needs
+laid-requires : tie.Need-laid-requires
+laid-requires c κs = search needs
 
-array-read-result : tie.Need-array-read-result
-array-read-result c = search needs
+entry-in-requires : tie.Need-entry-in-requires
+entry-in-requires c κs = search needs
 
 returns : tie.Need-returns
-returns c = c .table .ensures (c .before .args .byte) (search needs)
+returns c =
+    let byte = c .before .before .before .args .byte in
+    c .entry-in .ensures ∙ ap (λ (table : List ℕ). getD table byte 0) (c .before .before .laid .ensures)
+    ∙ entry-at byte (search needs)
 
 pub entry-of-spec : {M : Type 1} → statement M
-entry-of-spec = tie.close (tie.spec table-requires array-read-result returns)
+entry-of-spec = tie.close (tie.spec laid-requires entry-in-requires returns)

@@ -1,19 +1,14 @@
 -- Functions filled into lists: what is computed over a whole table holds at each of its places.
---   tabulate f i n   the values of f at the n numbers from i on
---   at               the value at a place of the list is the function's
---   agree            two functions whose lists are equal are equal at each number of the list
-use mathlib.Core.Path.{_≡_, refl, sym, ap, _∙_}
-use mathlib.Core.List.{List, [], _∷_}
+--   at      the value at a place of the list is the function's
+--   agree   two functions whose lists are equal are equal at each number of the list
+use mathlib.Core.Path.{_≡_, sym, ap, _∙_}
+use mathlib.Core.List.{List}
 use Prim.Native.Nat.{ℕ, zero, suc, _+_, _<_}
 use native.Mathlib.Nat.{add-zero, zero-add, add-suc, suc-add, le-of-suc-le-suc, not-suc-le-zero}
 use lib.ListN.{getD}
+use Rattle.code.specs.Tabulate.{tabulate}
 
 module _ {A : Type 0} where
-  -- the values of f at the n numbers from i on
-  abbrev pub tabulate : (ℕ → A) → ℕ → ℕ → List A
-  tabulate f i zero = []
-  tabulate f i (suc n) = f i ∷ tabulate f (suc i) n
-
   from : (f : ℕ → A) (d : A) (i n k : ℕ) → k < n → getD (tabulate f i n) k d ≡ f (i + k)
   from f d i zero k h = absurd (not-suc-le-zero h)
   from f d i (suc n) zero h = ap f (sym (add-zero i))

@@ -1,0 +1,67 @@
+-- The lag, an exact difference of two counts of 32 bits, and what it decides.
+--   lag-exact                 the difference of the counts as the code has them
+--   lag-fits                  fits 64 bits
+--   lag-bits                  and so can be kept as bits and read back
+--   decide-level, decide-ahead  lag 0 and lag 1 answer
+--   decide-apart              any other is refused
+use Prim.Native.Nat.{ℕ, zero, suc, _+_, _-_, _^_, _≤_, _<_}
+use mathlib.Core.Path.{_≡_, refl, sym, ap, ap₂, _∙_}
+use mathlib.Core.Bool.{Bool, true, false}
+use native.Mathlib.Decide.{decLe}
+use native.Mathlib.Nat.{add-zero, sub-zero}
+use native.Mathlib.Omega.{arith}
+use borrow.Author.Tests.{lt-ltb, le-ltb, lt-leb}
+use lib.IntN.{ℤ, pos, negsuc, _-ℤ_}
+use lib.Dec.{leb}
+use mir.Syntax.{w64}
+use mir.Val.{SFits, toZ, ofZ}
+use mir.Facts.{toZ-ofZ, toZ-pos}
+use Rattle.counter.specs.declared.verdict.Verdict.{Verdict}
+use Rattle.counter.specs.declared.verdict.Verdict.the-variants.{Good, Refused}
+use Rattle.counter.specs.declared.verdict.Refusal.the-variants.{Apart}
+use Rattle.counter.specs.Reading.{close, decide}
+
+-- ahead, or level
+ahead : (a b : ℕ) → b ≤ a → pos a -ℤ pos b ≡ pos (a - b)
+ahead a zero h = rw (add-zero a, sub-zero a)
+ahead a (suc b) h = rw (le-ltb a (suc b) h)
+
+behind : (a b : ℕ) → a < b → pos a -ℤ pos b ≡ negsuc (b - suc a)
+behind a zero h = absurd (omega arith)
+behind a (suc b) h = rw (lt-ltb a (suc b) h)
+
+module _ (a b : ℕ) (small : a < 2 ^ 32) (small′ : b < 2 ^ 32) where
+  fits : Dec (b ≤ a) → SFits w64 (pos a -ℤ pos b)
+  fits (yes h) = rw (ahead a b h) (record { sfits = omega arith })
+  fits (no h) = rw (behind a b (omega arith)) (record { sfits = omega arith })
+
+  pub lag-exact : toZ w64 a -ℤ toZ w64 b ≡ pos a -ℤ pos b
+  lag-exact = ap₂ _-ℤ_ (toZ-pos w64 {n = a} (omega arith)) (toZ-pos w64 {n = b} (omega arith))
+
+  pub lag-fits : SFits w64 (toZ w64 a -ℤ toZ w64 b)
+  lag-fits = rw lag-exact (fits (decLe b a))
+
+  pub lag-bits : toZ w64 (ofZ w64 (toZ w64 a -ℤ toZ w64 b)) ≡ pos a -ℤ pos b
+  lag-bits = toZ-ofZ lag-fits ∙ lag-exact
+
+close-not : (z : ℤ) → (z ≡ pos 0 → ⊥) → (z ≡ pos 1 → ⊥) → close z ≡ false
+unfolding close
+close-not (pos n) none one = lt-leb n 1 (go n none one)
+  where
+    go : (n : ℕ) → (pos n ≡ pos 0 → ⊥) → (pos n ≡ pos 1 → ⊥) → 1 < n
+    go zero none one = absurd (none refl)
+    go (suc zero) none one = absurd (one refl)
+    go (suc (suc n)) none one = omega arith
+close-not (negsuc n) none one = refl
+
+pub decide-level : (a b : ℕ) → pos a -ℤ pos b ≡ pos 0 → decide a b ≡ Good a (pos a -ℤ pos b)
+unfolding decide close
+decide-level a b e = rw e
+
+pub decide-ahead : (a b : ℕ) → pos a -ℤ pos b ≡ pos 1 → decide a b ≡ Good a (pos a -ℤ pos b)
+unfolding decide close
+decide-ahead a b e = rw e
+
+pub decide-apart : (a b : ℕ) → (pos a -ℤ pos b ≡ pos 0 → ⊥) → (pos a -ℤ pos b ≡ pos 1 → ⊥) → decide a b ≡ Refused (Apart (pos a -ℤ pos b))
+unfolding decide
+decide-apart a b none one = rw (close-not (pos a -ℤ pos b) none one)

@@ -1,0 +1,109 @@
+-- Reading two copies, by the bytes of the slots or by their entries in the table of readings.
+--   nibble-two                a nibble of one copy takes the other's where it is lost
+--   weigh-same                bytes that agree on all slots come to the same
+--   weigh-entries             what the bytes come to, by their entries
+use Prim.Native.Nat.{ℕ, zero, suc, _+_, _-_, _*_, _≤_, _<_}
+use mathlib.Core.Path.{_≡_, refl, sym, ap, ap₂, _∙_}
+use mathlib.Core.Bool.{Bool, true, false}
+use mathlib.Core.List.{List}
+use native.Mathlib.Nat.{zero-add}
+use native.Mathlib.Omega.{arith}
+use lib.Dec.{eqb}
+use Rattle.code.specs.declared.reading.Reading.{Reading}
+use Rattle.code.specs.Readings.{readingOf, twofold, isLost, nibbleRead}
+use Rattle.code.specs.Entries.{readingAt, twofoldAt as twofoldEntry, entryOf}
+use Rattle.code.specs.Gray.{countOf}
+use Rattle.code.specs.Nibbles.{wordOf}
+use Rattle.code.proofs.ReadingLaws.{entry-reading, entry-twofold, lost-zero}
+use Rattle.cells.specs.Chip.{pick}
+use Rattle.cells.specs.declared.row.Found.{Found}
+use Rattle.cells.specs.declared.row.Found.the-variants.{At, Nowhere}
+use Rattle.counter.specs.declared.reading.Fault.the-variants.{Twofold, LostInAll}
+use Rattle.counter.specs.declared.verdict.Verdict.{Verdict}
+use Rattle.counter.specs.declared.verdict.Verdict.the-variants.{Refused}
+use Rattle.counter.specs.declared.verdict.Refusal.the-variants.{TwoCodes, LostNibble}
+use Rattle.counter.specs.Slots.{two, every, some, lowest, tabulate, _and_, _or_}
+use Rattle.counter.specs.Reading.{lent, nibbleIn, countIn, twofoldAt, lostAt, amiss, decide, onFound, weigh}
+use Rattle.counter.proofs.RangeTests.{every-same, some-same, lowest-same, tabulate-same}
+
+-- the nibble of a reading, by way of a test that it is not lost
+kept : (r : Reading) → pick (isLost r) 0 (nibbleRead r) ≡ nibbleRead r
+kept r = go (isLost r) refl
+  where
+    go : (b : Bool) → isLost r ≡ b → pick (isLost r) 0 (nibbleRead r) ≡ nibbleRead r
+    go true e = rw e (sym (lost-zero r e))
+    go false e = rw e
+
+-- a nibble of one copy takes the other's where it is lost
+pub nibble-two : (reading : ℕ → Reading) (copy n : ℕ) → copy < 2
+    → nibbleIn two reading copy n ≡ pick (isLost (reading (8 * copy + n))) (nibbleRead (reading (8 - 8 * copy + n))) (nibbleRead (reading (8 * copy + n)))
+unfolding nibbleIn lent
+nibble-two reading zero n l = go (isLost (reading (0 + n))) refl
+  where
+    go : (b : Bool) → isLost (reading (0 + n)) ≡ b
+        → pick (isLost (reading (0 + n))) (pick (isLost (reading (0 + n))) (pick (isLost (reading (8 + n))) 0 (nibbleRead (reading (8 + n)))) (nibbleRead (reading (0 + n)))) (nibbleRead (reading (0 + n)))
+        ≡ pick (isLost (reading (0 + n))) (nibbleRead (reading (8 + n))) (nibbleRead (reading (0 + n)))
+    go true e = rw e (kept (reading (8 + n)))
+    go false e = rw e
+nibble-two reading (suc zero) n l = go (isLost (reading (8 + n))) refl
+  where
+    go : (b : Bool) → isLost (reading (8 + n)) ≡ b
+        → pick (isLost (reading (8 + n))) (pick (isLost (reading (0 + n))) (pick (isLost (reading (8 + n))) 0 (nibbleRead (reading (8 + n)))) (nibbleRead (reading (0 + n)))) (nibbleRead (reading (8 + n)))
+        ≡ pick (isLost (reading (8 + n))) (nibbleRead (reading (0 + n))) (nibbleRead (reading (8 + n)))
+    go true e = rw e (kept (reading (0 + n)))
+    go false e = rw e
+nibble-two reading (suc (suc copy)) n l = absurd (omega arith)
+
+-- readings that agree on all slots give the same counts
+count-same : (one other : ℕ → Reading) → ((k : ℕ) → k < 16 → one k ≡ other k) → (copy : ℕ) → copy < 2 → countIn two one copy ≡ countIn two other copy
+unfolding countIn
+count-same one other agree copy l = ap (λ (ns : List ℕ). countOf (wordOf ns)) (tabulate-same 8 0 _ _ (λ n from to. same n to))
+  where
+    same : (n : ℕ) → n < 0 + 8 → nibbleIn two one copy n ≡ nibbleIn two other copy n
+    same n to =
+        nibble-two one copy n l
+        ∙ rw (agree (8 * copy + n) (omega arith), agree (8 - 8 * copy + n) (omega arith)) (sym (nibble-two other copy n l))
+
+module _ (byte entry : ℕ → ℕ) (small : (k : ℕ) → k < 16 → byte k < 256) (are : (k : ℕ) → k < 16 → entry k ≡ entryOf (byte k)) where
+  read : (k : ℕ) → k < 16 → readingOf (byte k) ≡ readingAt (entry k)
+  read k l = sym (entry-reading (byte k) (small k l)) ∙ ap readingAt (sym (are k l))
+
+  folded : (k : ℕ) → k < 16 → twofold (byte k) ≡ twofoldEntry (entry k)
+  folded k l = sym (entry-twofold (byte k) (small k l)) ∙ ap twofoldEntry (sym (are k l))
+
+  twofold-entries : lowest 8 0 (twofoldAt two byte) ≡ lowest 8 0 (λ n. amiss Twofold (entry n) (entry (8 + n)))
+  unfolding some
+  twofold-entries = lowest-same 8 0 _ _ (λ n from to. same n to)
+    where
+      same : (n : ℕ) → n < 0 + 8 → twofoldAt two byte n ≡ amiss Twofold (entry n) (entry (8 + n))
+      same n to = rw (zero-add n, folded n (omega arith), folded (8 + n) (omega arith))
+
+  lost-entries : lowest 8 0 (lostAt two (λ k. readingOf (byte k))) ≡ lowest 8 0 (λ n. amiss LostInAll (entry n) (entry (8 + n)))
+  unfolding every
+  lost-entries = lowest-same 8 0 _ _ (λ n from to. same n to)
+    where
+      same : (n : ℕ) → n < 0 + 8 → lostAt two (λ k. readingOf (byte k)) n ≡ amiss LostInAll (entry n) (entry (8 + n))
+      same n to = rw (zero-add n, read n (omega arith), read (8 + n) (omega arith))
+
+  -- what the bytes come to, by their entries
+  pub weigh-entries : weigh two byte
+      ≡ onFound (lowest 8 0 (λ n. amiss Twofold (entry n) (entry (8 + n)))) TwoCodes
+      (onFound (lowest 8 0 (λ n. amiss LostInAll (entry n) (entry (8 + n)))) LostNibble
+      (decide (countIn two (λ k. readingAt (entry k)) 0) (countIn two (λ k. readingAt (entry k)) 1)))
+  unfolding weigh
+  weigh-entries = rw (twofold-entries, lost-entries, count-same _ (λ k. readingAt (entry k)) read 0 (omega arith), count-same _ (λ k. readingAt (entry k)) read 1 (omega arith))
+
+-- bytes that agree on all slots come to the same
+pub weigh-same : (one other : ℕ → ℕ) → ((k : ℕ) → k < 16 → one k ≡ other k) → weigh two one ≡ weigh two other
+unfolding weigh
+weigh-same one other agree =
+    rw (twofolds, losts, count-same (λ k. readingOf (one k)) (λ k. readingOf (other k)) read 0 (omega arith), count-same (λ k. readingOf (one k)) (λ k. readingOf (other k)) read 1 (omega arith))
+  where
+    read : (k : ℕ) → k < 16 → readingOf (one k) ≡ readingOf (other k)
+    read k l = ap readingOf (agree k l)
+
+    twofolds : lowest 8 0 (twofoldAt two one) ≡ lowest 8 0 (twofoldAt two other)
+    twofolds = lowest-same 8 0 _ _ (λ n from to. some-same two _ _ (λ copy l. ap twofold (agree (8 * copy + n) (omega arith))))
+
+    losts : lowest 8 0 (lostAt two (λ k. readingOf (one k))) ≡ lowest 8 0 (lostAt two (λ k. readingOf (other k)))
+    losts = lowest-same 8 0 _ _ (λ n from to. every-same two _ _ (λ copy l. ap isLost (read (8 * copy + n) (omega arith))))

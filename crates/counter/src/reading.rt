@@ -1,0 +1,181 @@
+// Reading (document 01, "Reading" and the table of refusals): bytes become readings, readings words, words
+// counts, and counts a verdict. A reading is at hand as its entry in the table of readings.
+ghost use mathlib.Core.Path.{_≡_};
+ghost use mathlib.Core.Bool.{true};
+ghost use Prim.Native.Nat.{ℕ, _+_, _<_};
+ghost use lib.ListN.{length, getD};
+ghost use Rattle.code.specs.Readings.{isLost, nibbleRead};
+ghost use Rattle.code.specs.Entries.{readingAt};
+ghost use Rattle.cells.specs.Chip.{pick};
+ghost use Rattle.counter.specs.Slots.{two, lowest};
+ghost use Rattle.counter.specs.Map.{listed};
+ghost use Rattle.counter.specs.Reading.{amiss, countIn, decide, weigh, examine, verdictOf};
+ghost use Rattle.counter.specs.Places.{lengthGood, placesGood};
+use super::map::Map;
+use super::map::is_marked;
+use super::map::pointers_of;
+use super::places::Places;
+use super::places::length_good;
+use super::places::places_good;
+use super::soundness::is_sound;
+use super::verdict::Refusal;
+use super::verdict::Verdict;
+use cells::row::Found;
+use code::gray::count_of;
+use code::nibbles::word_of;
+use code::reading::is_lost;
+use code::reading::nibble_read;
+use code::reading::reading_at;
+use code::reading::twofold_at;
+use code::table::entries_of;
+
+// The bytes at the pointers.
+pub fn data_of(image: &[u8], pointers: &[usize; 16]) -> [u8; 16]
+    requires { ⌜ ((k : ℕ) → k < 16 → getD (now pointers) k 0 < length (now image)) ⌝ }
+    ensures { λ r. ⌜ ((k : ℕ) → k < 16 → getD r k 0 ≡ getD (now (image .entry)) (getD (now (pointers .entry)) k 0) 0) ⌝ }
+{
+    let mut data = [0u8; 16];
+    let mut slot = 0;
+    while slot < Map::SLOTS {
+        data[slot] = image[pointers[slot]];
+        slot += 1;
+    }
+    data
+}
+
+// What can be amiss with a nibble: a byte one bit from two codes in some copy, or lost in every copy.
+pub enum Fault {
+    Twofold,
+    LostInAll,
+}
+
+// Whether one of two entries stands for a byte one bit from two codes.
+fn one_twofold(a: u8, b: u8) -> bool
+    ensures { λ r. ⌜ r ≡ amiss Fault.Twofold a b ⌝ }
+{
+    if twofold_at(a) {
+        return true;
+    }
+    twofold_at(b)
+}
+
+// Whether two entries are both lost.
+fn both_lost(a: u8, b: u8) -> bool
+    ensures { λ r. ⌜ r ≡ amiss Fault.LostInAll a b ⌝ }
+{
+    if is_lost(reading_at(a)) {
+        return is_lost(reading_at(b));
+    }
+    false
+}
+
+// Whether that is amiss with a nibble whose copies have these entries.
+fn is_amiss(fault: Fault, a: u8, b: u8) -> bool
+    ensures { λ r. ⌜ r ≡ amiss fault a b ⌝ }
+{
+    match fault {
+        Fault::Twofold => one_twofold(a, b),
+        Fault::LostInAll => both_lost(a, b),
+    }
+}
+
+// The lowest nibble with which that is amiss.
+fn lowest_amiss(fault: Fault, entries: &[u8; 16]) -> Found
+    ensures { λ r. ⌜ r ≡ lowest 8 0 (λ n. amiss fault (listed (now (entries .entry)) n) (listed (now (entries .entry)) (8 + n))) ⌝ }
+{
+    let mut n = 0;
+    while n < 8 {
+        if is_amiss(fault, entries[n], entries[8 + n]) {
+            return Found::At(n);
+        }
+        n += 1;
+    }
+    Found::Nowhere
+}
+
+// The nibble of one entry, or of the other copy's where it is lost.
+fn nibble_of_two(own: u8, other: u8) -> u8
+    ensures { λ r. ⌜ r ≡ pick (isLost (readingAt own)) (nibbleRead (readingAt other)) (nibbleRead (readingAt own)) ⌝ }
+{
+    if is_lost(reading_at(own)) {
+        return nibble_read(reading_at(other));
+    }
+    nibble_read(reading_at(own))
+}
+
+// The count of a copy, counted from 0.
+fn count_in(entries: &[u8; 16], copy: usize) -> u32
+    requires { ⌜ copy < 2 ⌝ }
+    ensures { λ r. ⌜ r ≡ countIn two (λ k. readingAt (listed (now (entries .entry)) k)) copy ⌝ }
+{
+    let own = 8 * copy;
+    let other = 8 - own;
+    let mut nibbles = [0u8; 8];
+    let mut n = 0;
+    while n < 8 {
+        nibbles[n] = nibble_of_two(entries[own + n], entries[other + n]);
+        n += 1;
+    }
+    count_of(word_of(nibbles))
+}
+
+// What the counts of the two copies decide: the lag is their exact difference.
+fn decided(first: u32, second: u32) -> Verdict
+    ensures { λ r. ⌜ r ≡ decide first second ⌝ }
+{
+    let lag = (first as i64) - (second as i64);
+    if lag == 0 {
+        return Verdict::Good(first, lag);
+    }
+    if lag == 1 {
+        return Verdict::Good(first, lag);
+    }
+    Verdict::Refused(Refusal::Apart(lag))
+}
+
+// What the bytes of the slots come to.
+pub fn weighed(data: &[u8; 16]) -> Verdict
+    ensures { λ r. ⌜ r ≡ weigh two (listed (now («data» .entry))) ⌝ }
+{
+    let entries = entries_of(data);
+    if let Found::At(n) = lowest_amiss(Fault::Twofold, &entries) {
+        return Verdict::Refused(Refusal::TwoCodes(n));
+    }
+    if let Found::At(n) = lowest_amiss(Fault::LostInAll, &entries) {
+        return Verdict::Refused(Refusal::LostNibble(n));
+    }
+    decided(count_in(&entries, 0), count_in(&entries, 1))
+}
+
+// What a marked image with good settings reads as.
+pub fn examined(image: &[u8], p: Places) -> Verdict
+    requires { ⌜ (lengthGood two (length (now image)) ≡ true) × (placesGood two (length (now image)) p ≡ true) ⌝ }
+    ensures { λ r. ⌜ r ≡ examine two p (now (image .entry)) ⌝ }
+{
+    let from = p.map;
+    let to = from + Map::SIZE;
+    let pointers = pointers_of(&image[from..to]);
+    if !is_sound(&pointers, p) {
+        return Verdict::Refused(Refusal::UnsoundMap);
+    }
+    let bytes = data_of(image, &pointers);
+    weighed(&bytes)
+}
+
+// What an image reads as, by the tests in the order of the table.
+pub fn verdict_of(image: &[u8], p: Places) -> Verdict
+    ensures { λ r. ⌜ r ≡ verdictOf two p (now (image .entry)) ⌝ }
+{
+    if !length_good(image.len()) {
+        return Verdict::Refused(Refusal::BadLength);
+    }
+    if !places_good(image.len(), p) {
+        return Verdict::Refused(Refusal::BadPlaces);
+    }
+    let from = p.map;
+    let to = from + Map::SIZE;
+    if !is_marked(&image[from..to]) {
+        return Verdict::Refused(Refusal::NoMark);
+    }
+    examined(image, p)
+}
