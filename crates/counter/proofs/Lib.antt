@@ -8,10 +8,13 @@ pub mod MayTry
 pub mod SoundByTries
 pub mod CodeMore
 pub mod Ready
+pub mod Fitted
 pub mod Pointers
 pub mod Tries
 pub mod Moves
 pub mod Stores
+pub mod StoreViews
+pub mod StoreCosts
 pub mod Takes
 pub mod Openings
 pub mod ReadBack

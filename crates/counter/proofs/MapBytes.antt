@@ -10,7 +10,7 @@ use Prim.Native.Nat.{ℕ, _+_, _/_, _%_, _≤_, _<_, _-_}
 use mathlib.Core.Path.{_≡_, sym, _∙_, ap}
 use mathlib.Core.Bool.{true}
 use mathlib.Core.List.{List}
-use native.Mathlib.Nat.{add-zero, add-sub-cancel-left}
+use native.Mathlib.Nat.{add-zero}
 use native.Mathlib.Omega.{arith}
 use lib.ListN.{length, getD, drop, length-take, length-drop, take}
 use lib.Seq.{getD-take, getD-drop, ext-getD}
@@ -24,9 +24,6 @@ use Rattle.counter.proofs.Offsets.{bytesOf}
 
 pub map-byte : (copies : ℕ) (p : Places) (cells : List ℕ) (j : ℕ) → j < mapCells copies → byteAt (mapIn copies p cells) j ≡ getD cells (p .map + j) 0
 map-byte copies p cells j h = getD-take (mapCells copies) (drop (p .map) cells) j 0 h ∙ getD-drop (p .map) cells j 0
-
-pub map-part : (p : Places) (cells : List ℕ) → take (p .map + 24 - p .map) (drop (p .map) cells) ≡ mapIn 2 p cells
-map-part p cells = ap (λ (n : ℕ). take n (drop (p .map) cells)) (add-sub-cancel-left (p .map) 24)
 
 -- the map of an image of some length has some length
 map-length : (copies : ℕ) (p : Places) (one other : List ℕ) → length one ≡ length other → length (mapIn copies p one) ≡ length (mapIn copies p other)
@@ -82,3 +79,6 @@ mark-same one other e f = rw (e, f)
 pub mark-put : (map : List ℕ) → byteAt map 0 ≡ 0xA5 → byteAt map 1 ≡ 0x5A → marked map ≡ true
 unfolding marked
 mark-put map e f = rw (e, f)
+
+pub map-part : (copies : ℕ) (p : Places) (cells : List ℕ) → take (p .map + mapCells copies - p .map) (drop (p .map) cells) ≡ mapIn copies p cells
+map-part copies p cells = let e : p .map + mapCells copies - p .map ≡ mapCells copies = omega arith in rw e

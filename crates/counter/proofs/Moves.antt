@@ -4,6 +4,9 @@
 --   Settles                   what such work comes to where it is done
 --   Moves                     the laws, given what the work may cost beside the spares it tries
 --   move-laws, slot-laws      they hold of a move, and of a store of one slot
+--   tries, first              the spares tried, and the put at the slot's cell
+--   move-missing, move-landing  a move, by what the spares come to
+--   slot-held, slot-failed    a slot, by its put
 --   change                    one where two bytes differ, else none
 --   slot-there                a slot that holds its byte is left alone
 --   slot-alive                a slot whose cell has life is written there
@@ -75,7 +78,7 @@ pub record Moves (copies : ℕ) (p : Places) (k b cost : ℕ) (s : Chip) (r : Ru
 -- ## A move
 
 module _ (copies : ℕ) (p : Places) (k b : ℕ) (s : Chip) where
-  abbrev tries : Run Found
+  abbrev pub tries : Run Found
   tries = trySpares k (gapAt copies p s) b s
 
   pub move-missing : tries .answer ≡ Nowhere → moveSlot copies p k b s ≡ tries then still (Stopped (NoSpare k)) (tries .after)
@@ -182,14 +185,14 @@ abbrev pub change : ℕ → ℕ → ℕ
 change x b = pick (eqb x b) 0 1
 
 module _ (copies : ℕ) (p : Places) (k b : ℕ) (s : Chip) where
-  abbrev first : Run Bool
+  abbrev pub first : Run Bool
   first = putAt (pointers copies p s k) b s
 
   pub slot-held : first .answer ≡ true → storeSlot copies p k b s ≡ first giving Done
   unfolding storeSlot
   slot-held e = rw e
 
-  slot-failed : first .answer ≡ false → storeSlot copies p k b s ≡ first then moveSlot copies p k b (first .after)
+  pub slot-failed : first .answer ≡ false → storeSlot copies p k b s ≡ first then moveSlot copies p k b (first .after)
   unfolding storeSlot
   slot-failed e = rw e
 

@@ -2,6 +2,7 @@
 --   Inside                    an address is in the area
 --   Sound                     the pointers of the slots below n are sound
 --   test-sound, sound-test    the test turned into it and back
+--   test-reach, reach-test    so for the one clause on High pointers
 --   sound-none                of no slots
 --   sound-same                of another function with the same values
 --   sound-fewer               of fewer slots
@@ -40,12 +41,12 @@ test-inside p a h =
 inside-test : (p : Places) (a : ℕ) → Inside p a → inArea p a ≡ true
 inside-test p a h = true-and _ _ (le-leb _ _ (h .from)) (le-leb _ _ (h .to))
 
-test-reach : (kind : Kind) (a : ℕ) → reachable kind a ≡ true → kind ≡ High → a ≤ 255
+pub test-reach : (kind : Kind) (a : ℕ) → reachable kind a ≡ true → kind ≡ High → a ≤ 255
 unfolding reachable
 test-reach High a h e = leb-true _ _ h
 test-reach Low a h e = let z : _≡_ {A = ℕ} 0 1 = cc in absurd (omega arith)
 
-reach-test : (kind : Kind) (a : ℕ) → (kind ≡ High → a ≤ 255) → reachable kind a ≡ true
+pub reach-test : (kind : Kind) (a : ℕ) → (kind ≡ High → a ≤ 255) → reachable kind a ≡ true
 unfolding reachable
 reach-test High a h = le-leb _ _ (h refl)
 reach-test Low a h = refl

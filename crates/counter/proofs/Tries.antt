@@ -1,5 +1,6 @@
 -- Spares tried: what it keeps, what it changes, what it costs.
 --   room                      the cells between the pointers of the two kinds
+--   spares-room               the spares are no more than the room
 --   Missing                   no spare holds: each was asked and refuses, and the chip is as it was
 --   Landing                   a spare holds: the chip is that one put from the start
 --   Trying, TryLaws, try-laws
@@ -63,7 +64,7 @@ row-free Low g c i =
     record { from = omega arith; to = omega arith; reach = λ e. let z : _≡_ {A = ℕ} 0 1 = cc in absurd (omega arith) }
 
 -- the spares are no more than the room
-spares-room : (kind : Kind) (g : Gap) → sparesOf kind g ≤ room g
+pub spares-room : (kind : Kind) (g : Gap) → sparesOf kind g ≤ room g
 unfolding sparesOf
 spares-room High g = omega arith
 spares-room Low g = omega arith

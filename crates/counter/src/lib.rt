@@ -5,6 +5,7 @@ pub mod doors;
 pub mod map;
 pub mod places;
 pub mod reading;
+pub mod store;
 pub mod soundness;
 pub mod spares;
 pub mod verdict;

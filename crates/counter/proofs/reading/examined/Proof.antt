@@ -36,7 +36,7 @@ pointers : (c : tie.After-pointers-of) → let s = c .before .before .before .ar
     → listed (c .pointers-of .result) k ≡ pointerOf (mapIn two (s .p) (s .image .now)) k
 pointers c k l =
     let s = c .before .before .before .args in
-    c .pointers-of .ensures k l .0 ∙ ap (λ map. pointerOf map k) (map-part (s .p) (s .image .now))
+    c .pointers-of .ensures k l .0 ∙ ap (λ map. pointerOf map k) (map-part two (s .p) (s .image .now))
 
 is-sound-requires : tie.Need-is-sound-requires
 is-sound-requires c κs =

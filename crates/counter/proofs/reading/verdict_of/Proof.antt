@@ -57,7 +57,7 @@ mark : (c : tie.After-is-marked) → let s = c .before .before .before .before .
     marked (mapIn two (s .p) (s .image .now)) ≡ c .is-marked .result
 mark c =
     let s = c .before .before .before .before .before .before .before .args in
-    sym (c .is-marked .ensures ∙ ap marked (map-part (s .p) (s .image .now)))
+    sym (c .is-marked .ensures ∙ ap marked (map-part two (s .p) (s .image .now)))
 
 returns-3 : tie.Need-returns-3
 unfolding verdictOf

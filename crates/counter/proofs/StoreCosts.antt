@@ -1,0 +1,132 @@
+-- Storing asks few writes and tries few spares: bounds by which no count of them can wrap.
+--   tries-few                 the spares of a slot, as many as the gap has cells
+--   pointer-few               a pointer
+--   move-few, slot-few        a byte moved, and a slot
+--   store-few                 a count
+use Prim.Native.Nat.{ℕ, zero, suc, _+_, _*_, _≤_}
+use mathlib.Core.Path.{_≡_, refl}
+use mathlib.Core.Bool.{Bool, true, false}
+use native.Mathlib.Omega.{arith}
+use lib.ListN.{length, length-append}
+use Rattle.cells.specs.declared.row.Found.{Found}
+use Rattle.cells.specs.declared.row.Found.the-variants.{At, Nowhere}
+use Rattle.cells.specs.Chip.{Chip}
+use Rattle.cells.specs.Run.{Run, Seen, view}
+use Rattle.cells.proofs.Logs.{within-kept}
+use Rattle.cells.proofs.Puts.{put-cost, put-tried, put-laws}
+use Rattle.cells.proofs.Rows.{row-cost, row-tried}
+use Rattle.cells.proofs.Walks.{walk-few}
+use Rattle.counter.specs.declared.map.Kind.{Kind}
+use Rattle.counter.specs.declared.map.Kind.the-variants.{High, Low}
+use Rattle.counter.specs.declared.places.Places.{Places}
+use Rattle.counter.specs.declared.spares.Gap.{Gap}
+use Rattle.counter.specs.declared.verdict.Work.{Work}
+use Rattle.counter.specs.declared.verdict.Work.the-variants.{Done}
+use Rattle.counter.specs.Slots.{slots, kindOf}
+use Rattle.counter.specs.Places.{fitted}
+use Rattle.counter.specs.Map.{offsetOf, pointerBytes, sound}
+use Rattle.counter.specs.Verdict.{_andThen_}
+use Rattle.counter.specs.Store.{slotCode, putPointer, trySpares, moveSlot, storeSlot, storeFrom, store}
+use Rattle.counter.proofs.Offsets.{bytesOf, bytes-length}
+use Rattle.counter.proofs.SoundPointers.{Sound, test-sound}
+use Rattle.counter.proofs.Gaps.{between-map}
+use Rattle.counter.proofs.Ready.{pointers, dataOf, Ready, ready-placed, ready-kept}
+use Rattle.counter.proofs.Fitted.{fitted-ready, ready-short}
+use Rattle.counter.proofs.Tries.{room, spares-room}
+use Rattle.counter.proofs.Moves.{Moves, change, gapAt, tries, first, move-missing, move-landing, slot-held, slot-failed, slot-laws, Ended, Ended.done, Ended.roomless, Ended.unmapped}
+use Rattle.counter.proofs.Stores.{done-then, stopped-then}
+
+-- at most so many writes, and so many tries
+record Costs {A : Type 0} (writes tried : ℕ) (r : Run A) : Type 0 where
+  asks : length (r .log) ≤ writes
+  tries : r .tried ≤ tried
+
+pub tries-few : (k : ℕ) (g : Gap) (b : ℕ) (s : Chip) {v : Seen Found} → v ≡ view (trySpares k g b s) → (v .writes ≤ v .tried) × (v .tried ≤ room g)
+unfolding trySpares
+tries-few k g b s e = let few = walk-few _ _ _ _ _ e in let all = spares-room (kindOf k) g in (few .0, omega arith)
+
+-- a pointer has one byte or two
+bytes-few : (kind : Kind) (a : ℕ) → length (pointerBytes kind a) ≤ 2
+unfolding bytesOf
+bytes-few High a = let e = bytes-length High a in omega arith
+bytes-few Low a = let e = bytes-length Low a in omega arith
+
+pointer-cost : (p : Places) (k a : ℕ) (s : Chip) → Costs 2 0 (putPointer p k a s)
+unfolding putPointer
+pointer-cost p k a s =
+    let bytes = bytes-few (kindOf k) a in
+    let few = row-cost (pointerBytes (kindOf k) a) (p .map + offsetOf k) s in
+    let none = row-tried (pointerBytes (kindOf k) a) (p .map + offsetOf k) s in
+    record { asks = omega arith; tries = omega arith }
+
+pub pointer-few : (p : Places) (k a : ℕ) (s : Chip) {v : Seen Work} → v ≡ view (putPointer p k a s) → v .writes ≤ 2
+pointer-few p k a s e = rw e (pointer-cost p k a s .asks)
+
+module _ {copies : ℕ} {p : Places} {s : Chip} (ready : Ready copies p s) (k b : ℕ) where
+  tries-cost : Costs 4096 4096 (tries copies p k b s)
+  tries-cost =
+      let few : (length (tries copies p k b s .log) ≤ tries copies p k b s .tried) × (tries copies p k b s .tried ≤ room (gapAt copies p s)) = tries-few k (gapAt copies p s) b s refl in
+      let end = between-map copies p (pointers copies p s) .end in
+      let placed = ready-placed ready in
+      let short = ready-short ready in
+      record { asks = omega arith; tries = omega arith }
+
+  move-cost : Costs 4098 4096 (moveSlot copies p k b s)
+  move-cost = go (tries copies p k b s .answer) refl
+    where
+      go : (f : Found) → tries copies p k b s .answer ≡ f → Costs 4098 4096 (moveSlot copies p k b s)
+      go Nowhere h = rw (move-missing copies p k b s h) (record { asks = rw length-append (omega (arith, tries-cost)); tries = omega (arith, tries-cost) })
+      go (At a) h =
+          let pointer = pointer-cost p k a (tries copies p k b s .after) in
+          rw (move-landing copies p k b s a h) (record { asks = rw length-append (omega (arith, tries-cost)); tries = omega (arith, tries-cost) })
+
+  pub move-few : {v : Seen Work} → v ≡ view (moveSlot copies p k b s) → v .writes ≤ 4098
+  move-few e = rw e (move-cost .asks)
+
+module _ {copies : ℕ} {p : Places} {s : Chip} (ready : Ready copies p s) (k b : ℕ) where
+  slot-cost : Costs 4099 4096 (storeSlot copies p k b s)
+  slot-cost = go (first copies p k b s .answer) refl
+    where
+      go : (t : Bool) → first copies p k b s .answer ≡ t → Costs 4099 4096 (storeSlot copies p k b s)
+      go true h =
+          let put = put-cost (pointers copies p s k) b s in
+          let none = put-tried (pointers copies p s k) b s in
+          rw (slot-held copies p k b s h) (record { asks = omega arith; tries = omega arith })
+      go false h =
+          let put = put-cost (pointers copies p s k) b s in
+          let none = put-tried (pointers copies p s k) b s in
+          let moved = move-cost (ready-kept ready (put-laws (pointers copies p s k) b s (ready .paired) .kept)) k b in
+          rw (slot-failed copies p k b s h) (record { asks = rw length-append (omega arith); tries = omega arith })
+
+  pub slot-few : {v : Seen Work} → v ≡ view (storeSlot copies p k b s) → (v .writes ≤ 4099) × (v .tried ≤ 4096)
+  slot-few e = rw e (slot-cost .asks, slot-cost .tries)
+
+module _ (copies : ℕ) (p : Places) (c : ℕ) where
+  from-cost : (n k : ℕ) (s : Chip) → k + n ≤ slots copies → Ready copies p s → Sound (slots copies) p (pointers copies p s) → Costs (4099 * n) (4096 * n) (storeFrom n k copies p c s)
+  unfolding storeFrom
+  from-cost zero k s fits ready well = record { asks = omega arith; tries = omega arith }
+  from-cost (suc n) k s fits ready well =
+      go (laws .ended) (λ e. from-cost n (k + 1) (r .after) (omega arith) (ready-kept ready (within-kept (laws .within))) (laws .settles e .sound))
+    where
+      r : Run Work
+      r = storeSlot copies p k (slotCode c k) s
+
+      laws : Moves copies p k (slotCode c k) (change (dataOf copies p s k) (slotCode c k)) s r
+      laws = slot-laws ready well k (omega arith) (slotCode c k)
+
+      slot : Costs 4099 4096 r
+      slot = slot-cost ready k (slotCode c k)
+
+      few : Costs (4099 * suc n) (4096 * suc n) r
+      few = record { asks = omega (arith, slot); tries = omega (arith, slot) }
+
+      go : Ended (r .answer) → (r .answer ≡ Done → Costs (4099 * n) (4096 * n) (storeFrom n (k + 1) copies p c (r .after))) → Costs (4099 * suc n) (4096 * suc n) (r andThen storeFrom n (k + 1) copies p c)
+      go (done e) rest = let others = rest e in rw (done-then r _ e) (record { asks = rw length-append (omega (arith, slot)); tries = omega (arith, slot) })
+      go (roomless j e) rest = rw (stopped-then r _ _ e) few
+      go (unmapped a e) rest = rw (stopped-then r _ _ e) few
+
+  pub store-few : (s : Chip) {v : Seen Work} → fitted copies p s ≡ true → sound copies p (pointers copies p s) ≡ true → v ≡ view (store copies p c s) → (v .writes ≤ 4099 * slots copies) × (v .tried ≤ 4096 * slots copies)
+  unfolding store
+  store-few s good well e =
+      let all = from-cost (slots copies) 0 s (omega arith) (fitted-ready good) (test-sound copies p _ well) in
+      rw e (all .asks, all .tries)

@@ -1,0 +1,228 @@
+-- What is said of storing, one law a turn, over what functions have said of its pieces, `v` and `u`.
+--   low-pointer, high-pointer the bytes of a pointer were put, by its slot's kind
+--   low-spares, high-near, high-far  the spares of a slot, as a row of cells
+--   GapFits, gap-fits         the gap that a fitting chip's pointers leave
+--   SpareHeld, spare-held     what a spare that holds leaves for the pointer
+--   move-nowhere, move-at     a byte was moved, by what was found
+--   slot-put, slot-moved      a byte was put at its slot's cell, or moved
+--   slot-same                 a put that fails leaves the chip as it was
+--   slot-settled, store-settled  work that is done leaves a fitting chip with a sound map
+--   storeLeft, store-left-all, store-left-none, store-left-done, store-left-stopped  what is left of a store
+use Prim.Native.Nat.{ℕ, suc, _+_, _-_, _/_, _%_, _≤_, _<_, min}
+use mathlib.Core.Path.{_≡_, sym, ap, _∙_}
+use mathlib.Core.Bool.{Bool, true, false}
+use mathlib.Core.List.{[], _∷_}
+use native.Mathlib.Nat.{zero-add, add-zero, sub-zero, sub-self}
+use native.Mathlib.Omega.{arith}
+use lib.ListN.{length}
+use Rattle.cells.specs.declared.row.Way.the-variants.{Up, Down}
+use Rattle.cells.specs.declared.row.Found.{Found}
+use Rattle.cells.specs.declared.row.Found.the-variants.{At, Nowhere}
+use Rattle.cells.specs.Chip.{Chip, Paired}
+use Rattle.cells.specs.Run.{Run, Seen, seen, view, plus, still}
+use Rattle.cells.specs.Log.{Within}
+use Rattle.cells.specs.Put.{putAt}
+use Rattle.cells.specs.Row.{walk, putRow}
+use Rattle.cells.proofs.Views.{said-then, said-giving, said-answer, said-after}
+use Rattle.cells.proofs.Logs.{within-kept}
+use Rattle.cells.proofs.Puts.{put-tried, put-laws}
+use Rattle.cells.proofs.Rows.{row-tried}
+use Rattle.counter.specs.declared.places.Places.{Places}
+use Rattle.counter.specs.declared.spares.Gap.{Gap}
+use Rattle.counter.specs.declared.verdict.Work.{Work}
+use Rattle.counter.specs.declared.verdict.Work.the-variants.{Done, Stopped}
+use Rattle.counter.specs.declared.verdict.Refusal.{Refusal}
+use Rattle.counter.specs.declared.verdict.Refusal.the-variants.{NoSpare}
+use Rattle.counter.specs.Slots.{slots, kindOf}
+use Rattle.counter.specs.Places.{fitted}
+use Rattle.counter.specs.Map.{offsetOf, pointerBytes, reachable, sound}
+use Rattle.counter.specs.Spares.{wayOf, nextOf, sparesOf}
+use Rattle.counter.specs.Verdict.{_andThen_}
+use Rattle.counter.specs.Store.{mapped, putPointer, trySpares, moveSlot, slotCode, storeSlot, storeFrom, store}
+use Rattle.counter.proofs.Offsets.{kind-low, kind-high}
+use Rattle.counter.proofs.SoundPointers.{Sound, test-sound, sound-test, reach-test}
+use Rattle.counter.proofs.Gaps.{between-map, between-ordered, free-spare}
+use Rattle.counter.proofs.Ready.{pointers, Ready, Own, ready-placed, ready-kept, start-fits}
+use Rattle.counter.proofs.Fitted.{fitted-ready, ready-fitted, ready-short}
+use Rattle.counter.proofs.Tries.{Trying, Trying.missing, Trying.landing, TryLaws, try-laws}
+use Rattle.counter.proofs.Moves.{gapAt, tries, first, move-missing, move-landing, slot-held, slot-failed, slot-laws}
+use Rattle.counter.proofs.Stores.{done-then, stopped-then, store-laws}
+
+-- ## An address put as a slot's pointer
+
+module _ (p : Places) (k a at : ℕ) (s : Chip) {v : Seen Found} (here : at ≡ offsetOf k) where
+  pub low-pointer : k % 8 < 3 → v ≡ view (putRow (a % 256 ∷ a / 256 ∷ []) (p .map + at) s) → view (putPointer p k a s) ≡ seen (mapped (v .answer)) (v .writes) (v .tried) (v .after)
+  unfolding putPointer pointerBytes
+  low-pointer h e = rw (kind-low k h, ← here, e)
+
+  pub high-pointer : 3 ≤ k % 8 → a ≤ 255 → v ≡ view (putRow (a % 256 ∷ []) (p .map + at) s) → view (putPointer p k a s) ≡ seen (mapped (v .answer)) (v .writes) (v .tried) (v .after)
+  unfolding putPointer pointerBytes
+  high-pointer h small e = let same : a % 256 ≡ a = omega arith in rw (kind-high k h, ← here, e, same)
+
+pointer-tried : (p : Places) (k a : ℕ) (s : Chip) → putPointer p k a s .tried ≡ 0
+unfolding putPointer
+pointer-tried p k a s = row-tried (pointerBytes (kindOf k) a) (p .map + offsetOf k) s
+
+-- ## The spares of a slot, tried along a row
+
+module _ (k : ℕ) (g : Gap) (b : ℕ) (s : Chip) where
+  pub low-spares : k % 8 < 3 → trySpares k g b s ≡ walk (g .low - g .high) Down (g .low - 1) b s
+  unfolding trySpares sparesOf wayOf nextOf
+  low-spares h = rw (kind-low k h)
+
+  module _ (h : 3 ≤ k % 8) where
+    high-spares : trySpares k g b s ≡ walk (min 256 (g .low) - g .high) Up (g .high) b s
+    unfolding trySpares sparesOf wayOf nextOf
+    high-spares = rw (kind-high k h)
+
+    pub high-near : g .low < 256 → trySpares k g b s ≡ walk (g .low - g .high) Up (g .high) b s
+    high-near l = let e : min 256 (g .low) ≡ g .low = omega arith in high-spares ∙ rw e
+
+    pub high-far : 256 ≤ g .low → trySpares k g b s ≡ walk (256 - g .high) Up (g .high) b s
+    high-far l = let e : min 256 (g .low) ≡ 256 = omega arith in high-spares ∙ rw e
+
+-- ## The gap that a fitting chip's pointers leave
+
+pub record GapFits (size : ℕ) (g : Gap) : Type 0 where
+  pub first : 1 ≤ g .high
+  pub reach : g .high ≤ 256
+  pub ordered : g .high ≤ g .low
+  pub inside : g .low ≤ size
+
+pub gap-fits : {copies : ℕ} {p : Places} {s : Chip} → Ready copies p s → Sound (slots copies) p (pointers copies p s) → GapFits (length (s .cells)) (gapAt copies p s)
+gap-fits {copies} {p} {s} ready sound =
+    let placed = ready-placed ready in
+    let gap = between-map copies p (pointers copies p s) in
+    let from = gap .start in
+    let to = gap .end in
+    record {
+      first = omega arith;
+      reach = gap .least 256 (omega arith) (λ k l e. let h = sound .reach k l e in omega arith);
+      ordered = between-ordered (start-fits ready) sound gap;
+      inside = omega arith;
+    }
+
+-- ## A byte moved to a spare
+
+pub record SpareHeld (copies : ℕ) (p : Places) (k a : ℕ) (s : Chip) : Type 0 where
+  pub ready : Ready copies p s
+  pub small : a < 65536
+  pub reach : reachable (kindOf k) a ≡ true
+
+module _ (copies : ℕ) (p : Places) (k b : ℕ) (s : Chip) {g : Gap} (here : g ≡ gapAt copies p s) {v : Seen Found} (e : v ≡ view (trySpares k g b s)) where
+  said : v ≡ view (tries copies p k b s)
+  said = rw here at e
+
+  pub spare-held : {a : ℕ} → Ready copies p s → v .answer ≡ At a → SpareHeld copies p k a (v .after)
+  spare-held {a} ready h = go (laws .trying)
+    where
+      laws : TryLaws k (gapAt copies p s) b s
+      laws = try-laws k (gapAt copies p s) b s (ready .paired)
+
+      kept : Ready copies p (v .after)
+      kept = rw (said-after (tries copies p k b s) said) (ready-kept ready (within-kept (laws .within)))
+
+      go : Trying k (gapAt copies p s) b s → SpareHeld copies p k a (v .after)
+      go (missing m) = let z : _≡_ {A = ℕ} 0 1 = let q = m .nowhere in cc in absurd (omega arith)
+      go (landing m) =
+          let same : m .place ≡ a = let q = m .here in cc in
+          let inside = free-spare (between-map copies p (pointers copies p s)) (m .free) .inside .to in
+          let placed = ready-placed ready in
+          let short = ready-short ready in
+          record { ready = kept; small = omega arith; reach = rw same at (reach-test (kindOf k) (m .place) (m .free .reach)) }
+
+  pub move-nowhere : v .answer ≡ Nowhere → view (moveSlot copies p k b s) ≡ seen (Stopped (NoSpare k)) (v .writes) (v .tried) (v .after)
+  move-nowhere h =
+      ap view (move-missing copies p k b s (said-answer (tries copies p k b s) said h))
+      ∙ said-then (tries copies p k b s) said (still (Stopped (NoSpare k)))
+      ∙ simp add-zero
+
+  pub move-at : {a : ℕ} {u : Seen Work} → v .answer ≡ At a → u ≡ view (putPointer p k a (v .after)) → view (moveSlot copies p k b s) ≡ seen (u .answer) (v .writes + u .writes) (v .tried) (u .after)
+  move-at {a} h f =
+      ap view (move-landing copies p k b s a (said-answer (tries copies p k b s) said h))
+      ∙ said-then (tries copies p k b s) said (putPointer p k a)
+      ∙ ap (plus _ _) (sym f)
+      ∙ rw (ap (λ (w : Seen Work). w .tried) f, pointer-tried, add-zero)
+
+-- ## A byte put at its slot's cell
+
+module _ (copies : ℕ) (p : Places) (k b : ℕ) (s : Chip) {at : ℕ} (here : at ≡ pointers copies p s k) {v : Seen Bool} (e : v ≡ view (putAt at b s)) where
+  first-said : v ≡ view (first copies p k b s)
+  first-said = rw here at e
+
+  pub slot-put : v .answer ≡ true → view (storeSlot copies p k b s) ≡ seen Done (v .writes) 0 (v .after)
+  slot-put h =
+      ap view (slot-held copies p k b s (said-answer (first copies p k b s) first-said h))
+      ∙ said-giving (first copies p k b s) first-said Done
+      ∙ rw (ap (λ (w : Seen Bool). w .tried) first-said, put-tried)
+
+  -- a put that fails leaves the chip as it was
+  pub slot-same : Paired s → v .answer ≡ false → v .after ≡ s
+  slot-same paired h =
+      let r = first copies p k b s in
+      said-after r first-said ∙ ap (λ (q : Run Bool). q .after) (put-laws (pointers copies p s k) b s paired .unchanged (said-answer r first-said h))
+
+  pub slot-moved : {u : Seen Work} → v .answer ≡ false → u ≡ view (moveSlot copies p k b (v .after)) → view (storeSlot copies p k b s) ≡ seen (u .answer) (v .writes + u .writes) (u .tried) (u .after)
+  slot-moved h f =
+      ap view (slot-failed copies p k b s (said-answer (first copies p k b s) first-said h))
+      ∙ said-then (first copies p k b s) first-said (moveSlot copies p k b)
+      ∙ ap (plus _ _) (sym f)
+      ∙ rw (ap (λ (w : Seen Bool). w .tried) first-said, put-tried, zero-add)
+
+-- ## A count stored
+
+-- work inside map and area that leaves a sound map leaves what the next piece asks
+settled :
+    (copies : ℕ) (p : Places) (s : Chip) (r : Run Work) {v : Seen Work}
+    → Ready copies p s
+    → Within (Own copies p) s r
+    → Sound (slots copies) p (pointers copies p (r .after))
+    → v ≡ view r
+    → (fitted copies p (v .after) ≡ true) × (sound copies p (pointers copies p (v .after)) ≡ true)
+settled copies p s r ready within well e = rw (said-after r e) (ready-fitted (ready-kept ready (within-kept within)), sound-test copies p _ well)
+
+module _ (copies : ℕ) (p : Places) (s : Chip) {v : Seen Work} (good : fitted copies p s ≡ true) (well : sound copies p (pointers copies p s) ≡ true) where
+  pub slot-settled : (k b : ℕ) → k < slots copies → v ≡ view (storeSlot copies p k b s) → v .answer ≡ Done → (fitted copies p (v .after) ≡ true) × (sound copies p (pointers copies p (v .after)) ≡ true)
+  slot-settled k b l e h =
+      let laws = slot-laws (fitted-ready good) (test-sound copies p _ well) k l b in
+      settled copies p s _ (fitted-ready good) (laws .within) (laws .settles (said-answer (storeSlot copies p k b s) e h) .sound) e
+
+  pub store-settled : (c : ℕ) → v ≡ view (store copies p c s) → v .answer ≡ Done → (fitted copies p (v .after) ≡ true) × (sound copies p (pointers copies p (v .after)) ≡ true)
+  store-settled c e h =
+      let laws = store-laws copies p c s (fitted-ready good) (test-sound copies p _ well) in
+      settled copies p s _ (fitted-ready good) (laws .within) (laws .stored (said-answer (store copies p c s) e h) .sound) e
+
+-- what is left of a store when the slots below k hold their codes
+abbrev pub storeLeft : ℕ → Places → ℕ → ℕ → Chip → Run Work
+storeLeft copies p c k s = storeFrom (slots copies - k) k copies p c s
+
+module _ (copies : ℕ) (p : Places) (c : ℕ) where
+  -- at first, all of it
+  pub store-left-all : (s : Chip) → view (store copies p c s) ≡ plus 0 0 (view (storeLeft copies p c 0 s))
+  unfolding store
+  store-left-all s = simp (sub-zero, zero-add)
+
+  -- at the end, nothing
+  pub store-left-none : (w t k : ℕ) (s : Chip) → k ≡ slots copies → plus w t (view (storeLeft copies p c k s)) ≡ seen Done w t s
+  unfolding storeFrom
+  store-left-none w t k s e = rw (e, sub-self) (simp add-zero)
+
+  module _ (k : ℕ) {b : ℕ} (s : Chip) (inside : k < slots copies) (here : b ≡ slotCode c k) {v : Seen Work} (e : v ≡ view (storeSlot copies p k b s)) where
+    -- there is a slot left
+    one-more : storeLeft copies p c k s ≡ storeSlot copies p k b s andThen storeLeft copies p c (k + 1)
+    unfolding storeFrom
+    one-more = let more : slots copies - k ≡ suc (slots copies - (k + 1)) = omega arith in rw (more, here)
+
+    -- slot k was done
+    pub store-left-done : v .answer ≡ Done → view (storeLeft copies p c k s) ≡ plus (v .writes) (v .tried) (view (storeLeft copies p c (k + 1) (v .after)))
+    store-left-done h =
+        let r = storeSlot copies p k b s in
+        ap view (one-more ∙ done-then r (storeLeft copies p c (k + 1)) (said-answer r e h)) ∙ said-then r e (storeLeft copies p c (k + 1))
+
+    -- slot k stopped
+    pub store-left-stopped : {why : Refusal} → v .answer ≡ Stopped why → view (storeLeft copies p c k s) ≡ seen (Stopped why) (v .writes) (v .tried) (v .after)
+    store-left-stopped {why} h =
+        let r = storeSlot copies p k b s in
+        ap view (one-more ∙ stopped-then r (storeLeft copies p c (k + 1)) why (said-answer r e h))
+        ∙ sym e
+        ∙ ap (λ (w : Work). seen w (v .writes) (v .tried) (v .after)) h

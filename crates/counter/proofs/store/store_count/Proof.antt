@@ -1,0 +1,159 @@
+-- `store::store_count` meets its contract. Whenever the loop's test is reached, the store comes to what is left of it, behind
+-- the writes asked and the spares tried so far, few for each slot. The measure is the number of slots left.
+use Prim.Native.Nat.{_-_, _*_, _%_, _≤_}
+use mathlib.Core.Path.{_≡_, refl, sym, ap, _∙_}
+use mathlib.Core.Bool.{true}
+use borrow.Author.Needs.{needs}
+use native.Mathlib.Omega.{arith}
+use lib.ListN.{length}
+use Rattle.code.specs.Codes.{codeOf}
+use Rattle.code.specs.Nibbles.{nibbleOf}
+use Rattle.cells.specs.Chip.{chip}
+use Rattle.cells.specs.Run.{view, plus}
+use Rattle.cells.proofs.Views.{plus-plus}
+use Rattle.counter.specs.Places.{fitted}
+use Rattle.counter.specs.Map.{sound}
+use Rattle.counter.specs.Store.{slotCode, store}
+use Rattle.counter.proofs.Ready.{pointers}
+use Rattle.counter.proofs.Fitted.{fitted-ready}
+use Rattle.counter.proofs.StoreViews.{slot-settled, storeLeft, store-left-all, store-left-none, store-left-done, store-left-stopped}
+use Rattle.counter.proofs.StoreCosts.{slot-few}
+use Rattle.counter.proofs.store.store_count.Statement.{statement}
+use Rattle.counter.proofs.store.store_count.Tie as tie
+
+abbrev Inv-loop : tie.InvT-loop
+Inv-loop image₀ lives₀ p count word writes₀ tried₀ slot₀ image lives writes tried slot =
+    record {
+      most : slot ≤ 16;
+      few : writes ≤ 4099 * slot;
+      tries : tried ≤ 4096 * slot;
+      cells-kept : length image ≡ length image₀;
+      lives-kept : length lives ≡ length lives₀;
+      good : fitted 2 p (chip image lives) ≡ true;
+      well : sound 2 p (pointers 2 p (chip image lives)) ≡ true;
+      rest : view (store 2 p count (chip image₀ lives₀)) ≡ plus writes tried (view (storeLeft 2 p count slot (chip image lives)));
+    }
+
+abbrev μ-loop : tie.MeasureT-loop
+μ-loop image₀ lives₀ p count word writes₀ tried₀ slot₀ image lives writes tried slot = 16 - slot
+
+gray-of-requires : tie.Need-gray-of-requires Inv-loop μ-loop
+gray-of-requires c κs = search needs
+
+loop-holds : tie.Need-loop-holds Inv-loop μ-loop
+loop-holds c =
+    record {
+      most = omega arith;
+      few = omega arith;
+      tries = omega arith;
+      cells-kept = refl;
+      lives-kept = refl;
+      good = c .before .before .before .pre .0;
+      well = c .before .before .before .pre .1;
+      rest = store-left-all _ _ _ _;
+    }
+
+nibble-of-requires : tie.Need-nibble-of-requires Inv-loop μ-loop
+nibble-of-requires c κs = search needs
+
+code-of-requires : tie.Need-code-of-requires Inv-loop μ-loop
+code-of-requires c κs = search needs
+
+-- the byte is the slot's code of the count
+code-here : (c : tie.After-code-of Inv-loop μ-loop) → c .code-of .result ≡ slotCode (c .before .before .before .before .before .before .before .before .before .args .count) (c .before .before .before .before .before .loop .slot)
+unfolding slotCode
+code-here c = c .code-of .ensures ∙ ap codeOf (c .before .nibble-of .ensures ∙ ap (λ w. nibbleOf w (c .before .before .before .before .before .loop .slot % 8)) (c .before .before .before .before .before .before .gray-of .ensures))
+
+store-slot-requires : tie.Need-store-slot-requires Inv-loop μ-loop
+store-slot-requires c κs = let inv = c .before .before .before .before .before .loop .inv in (inv .good, inv .well, c .before .before .before .before .loop-test .taken)
+
+-- what the slot asked and tried
+few-here : (c : tie.After-store-slot Inv-loop μ-loop) → (c .store-slot .result .writes ≤ 4099) × (c .store-slot .result .tried ≤ 4096)
+few-here c = slot-few (fitted-ready (c .before .before .before .before .before .before .loop .inv .good)) _ _ (c .store-slot .ensures)
+
+add-writes : tie.Need-add-writes Inv-loop μ-loop
+add-writes c = let inv = c .before .before .before .before .before .before .before .before .before .before .before .loop .inv in omega (arith, few-here (c .before .before .before .before .before))
+
+add-tried : tie.Need-add-tried Inv-loop μ-loop
+add-tried c = let inv = c .before .before .before .before .before .before .before .before .before .before .before .before .loop .inv in omega (arith, few-here (c .before .before .before .before .before .before))
+
+enum-known-work : tie.Need-enum-known-work Inv-loop μ-loop
+enum-known-work c = search needs
+
+same-length : tie.Need-same-length Inv-loop μ-loop
+same-length c = search needs
+
+same-length-2 : tie.Need-same-length-2 Inv-loop μ-loop
+same-length-2 c = search needs
+
+returns : tie.Need-returns Inv-loop μ-loop
+returns c =
+    let loop = c .before .before .before .before .before .before .before .before .before .before .before .before .before .before .before .loop in
+    sym
+    (loop .inv .rest
+    ∙ ap (plus (loop .writes) (loop .tried)) (store-left-stopped 2 _ _ _ _ (c .before .before .before .before .before .before .before .before .before .before .before .before .before .before .loop-test .taken) (code-here (c .before .before .before .before .before .before .before .before .before .before)) (c .before .before .before .before .before .before .before .before .before .store-slot .ensures) (c .before .work .given .1)))
+
+enum-told : tie.Need-enum-told Inv-loop μ-loop
+enum-told c = search needs
+
+add-slot : tie.Need-add-slot Inv-loop μ-loop
+add-slot c = search needs
+
+loop-less : tie.Need-loop-less Inv-loop μ-loop
+loop-less c = search needs
+
+loop-again : tie.Need-loop-again Inv-loop μ-loop
+loop-again c =
+    let loop = c .before .before .before .before .before .before .before .before .before .before .before .before .before .before .loop in
+    let call = c .before .before .before .before .before .before .before .before in
+    let few = few-here call in
+    let inside = c .before .before .before .before .before .before .before .before .before .before .before .before .before .loop-test .taken in
+    let done = c .enum-told .given .1 in
+    let settled = slot-settled 2 _ _ (loop .inv .good) (loop .inv .well) _ _ inside (call .store-slot .ensures) done in
+    record {
+      most = omega arith;
+      few = omega arith;
+      tries = omega arith;
+      cells-kept = search needs;
+      lives-kept = search needs;
+      good = settled .0;
+      well = settled .1;
+      rest =
+          loop .inv .rest
+          ∙ ap (plus (loop .writes) (loop .tried)) (store-left-done 2 _ _ _ _ inside (code-here (c .before .before .before .before .before .before .before .before .before)) (call .store-slot .ensures) done)
+          ∙ plus-plus (loop .writes) (loop .tried) (call .store-slot .result .writes) (call .store-slot .result .tried) _;
+    }
+
+same-length-3 : tie.Need-same-length-3 Inv-loop μ-loop
+same-length-3 c = search needs
+
+same-length-4 : tie.Need-same-length-4 Inv-loop μ-loop
+same-length-4 c = search needs
+
+returns-2 : tie.Need-returns-2 Inv-loop μ-loop
+returns-2 c = sym (c .before .loop .inv .rest ∙ store-left-none 2 _ _ _ _ (c .before .loop .slot) _ (omega arith))
+
+pub store-count-spec : {M : Type 1} → statement M
+store-count-spec =
+    tie.close
+    (tie.spec
+    Inv-loop
+    μ-loop
+    gray-of-requires
+    loop-holds
+    nibble-of-requires
+    code-of-requires
+    store-slot-requires
+    add-writes
+    add-tried
+    enum-known-work
+    same-length
+    same-length-2
+    returns
+    enum-told
+    add-slot
+    loop-less
+    loop-again
+    same-length-3
+    same-length-4
+    returns-2)

@@ -1,0 +1,173 @@
+// Storing a count (document 01, "Storing, opening, stepping"). Every function here asks that the chip has its
+// lives and good settings, and a sound map; the doors see to that.
+ghost use mathlib.Core.Path.{_≡_};
+ghost use mathlib.Core.Bool.{true};
+ghost use Prim.Native.Nat.{_≤_, _<_};
+ghost use lib.ListN.{length};
+ghost use Rattle.cells.specs.Chip.{chip};
+ghost use Rattle.cells.specs.Run.{seen, view};
+ghost use Rattle.counter.specs.Slots.{two, kindOf};
+ghost use Rattle.counter.specs.Places.{fitted};
+ghost use Rattle.counter.specs.Map.{mapIn, pointerOf, sound, reachable};
+ghost use Rattle.counter.specs.Store.{mapped, putPointer, trySpares, moveSlot, storeSlot, store};
+use super::map::Map;
+use super::map::offset_of;
+use super::map::pointer_of;
+use super::map::pointers_of;
+use super::places::Places;
+use super::spares::Gap;
+use super::spares::gap_of;
+use super::verdict::Refusal;
+use super::verdict::Work;
+use cells::put::put;
+use cells::row::Found;
+use cells::row::RowPut;
+use cells::row::Walked;
+use cells::row::Way;
+use cells::row::put_row;
+use cells::row::walk;
+use code::codes::code_of;
+use code::gray::gray_of;
+use code::nibbles::nibble_of;
+
+// What a piece of storing came to: how it ended, the writes asked for, and the spares tried.
+pub struct Stored {
+    pub work: Work,
+    pub writes: usize,
+    pub tried: usize,
+}
+
+// What a row of map bytes came to: done, or stopped at the byte whose put failed.
+pub fn mapped(row: RowPut) -> Stored
+    ensures { λ r. ⌜ (r .work ≡ mapped (row .failed)) × (r .writes ≡ row .writes) × (r .tried ≡ 0) ⌝ }
+{
+    let failed = row.failed;
+    let writes = row.writes;
+    match failed {
+        Found::Nowhere => Stored {
+            work: Work::Done,
+            writes,
+            tried: 0,
+        },
+        Found::At(address) => Stored {
+            work: Work::Stopped(Refusal::MapByte(address)),
+            writes,
+            tried: 0,
+        },
+    }
+}
+
+// An address put as a slot's pointer, low byte first.
+pub fn put_pointer(image: &mut [u8], lives: &mut [u32], p: Places, slot: usize, a: usize) -> Stored
+    requires { ⌜ (fitted two p (chip (now image) (now lives)) ≡ true) × (slot < 16) × (a < 65536) × (reachable (kindOf slot) a ≡ true) ⌝ }
+    ensures { λ r. ⌜ seen (r .work) (r .writes) (r .tried) (chip (now (image .exit)) (now (lives .exit))) ≡ view (putPointer p slot a (chip (now (image .entry)) (now (lives .entry)))) ⌝ }
+{
+    let at = p.map + offset_of(slot);
+    let low = (a % 256) as u8;
+    if slot % 8 < 3 {
+        let bytes = [low, (a / 256) as u8];
+        return mapped(put_row(image, lives, at, &bytes));
+    }
+    let byte = [low];
+    mapped(put_row(image, lives, at, &byte))
+}
+
+// The spares of a slot's kind that a gap leaves, tried one after another until one holds the byte.
+pub fn try_spares(image: &mut [u8], lives: &mut [u32], slot: usize, gap: Gap, byte: u8) -> Walked
+    requires { ⌜ (length (now lives) ≡ length (now image)) × (1 ≤ gap .high) × (gap .high ≤ 256) × (gap .high ≤ gap .low) × (gap .low ≤ length (now image)) ⌝ }
+    ensures { λ r. ⌜ seen (r .found) (r .writes) (r .tried) (chip (now (image .exit)) (now (lives .exit))) ≡ view (trySpares slot gap byte (chip (now (image .entry)) (now (lives .entry)))) ⌝ }
+{
+    let high = gap.high;
+    let low = gap.low;
+    if slot % 8 < 3 {
+        return walk(image, lives, low - high, Way::Down, low - 1, byte);
+    }
+    if low < 256 {
+        return walk(image, lives, low - high, Way::Up, high, byte);
+    }
+    walk(image, lives, 256 - high, Way::Up, high, byte)
+}
+
+// A byte moved to a spare of a slot's kind.
+fn move_slot(image: &mut [u8], lives: &mut [u32], p: Places, slot: usize, byte: u8) -> Stored
+    requires { ⌜ (fitted two p (chip (now image) (now lives)) ≡ true) × (sound two p (pointerOf (mapIn two p (now image))) ≡ true) × (slot < 16) ⌝ }
+    ensures { λ r. ⌜ seen (r .work) (r .writes) (r .tried) (chip (now (image .exit)) (now (lives .exit))) ≡ view (moveSlot two p slot byte (chip (now (image .entry)) (now (lives .entry)))) ⌝ }
+{
+    let from = p.map;
+    let to = from + Map::SIZE;
+    let pointers = pointers_of(&image[from..to]);
+    let gap = gap_of(&pointers, p);
+    let walked = try_spares(image, lives, slot, gap, byte);
+    let found = walked.found;
+    match found {
+        Found::Nowhere => Stored {
+            work: Work::Stopped(Refusal::NoSpare(slot)),
+            writes: walked.writes,
+            tried: walked.tried,
+        },
+        Found::At(a) => {
+            let done = put_pointer(image, lives, p, slot, a);
+            let work = done.work;
+            Stored {
+                work,
+                writes: walked.writes + done.writes,
+                tried: walked.tried,
+            }
+        }
+    }
+}
+
+// A byte put at a slot's cell, and moved if the put fails.
+pub fn store_slot(image: &mut [u8], lives: &mut [u32], p: Places, slot: usize, byte: u8) -> Stored
+    requires { ⌜ (fitted two p (chip (now image) (now lives)) ≡ true) × (sound two p (pointerOf (mapIn two p (now image))) ≡ true) × (slot < 16) ⌝ }
+    ensures { λ r. ⌜ seen (r .work) (r .writes) (r .tried) (chip (now (image .exit)) (now (lives .exit))) ≡ view (storeSlot two p slot byte (chip (now (image .entry)) (now (lives .entry)))) ⌝ }
+{
+    let from = p.map;
+    let to = from + Map::SIZE;
+    let at = pointer_of(&image[from..to], slot);
+    let done = put(image, lives, at, byte);
+    if done.held {
+        return Stored {
+            work: Work::Done,
+            writes: done.writes,
+            tried: 0,
+        };
+    }
+    let moved = move_slot(image, lives, p, slot, byte);
+    let work = moved.work;
+    Stored {
+        work,
+        writes: done.writes + moved.writes,
+        tried: moved.tried,
+    }
+}
+
+// A count stored: copy 1, nibbles 0 to 7, then copy 2 the same.
+pub fn store_count(image: &mut [u8], lives: &mut [u32], p: Places, count: u32) -> Stored
+    requires { ⌜ (fitted two p (chip (now image) (now lives)) ≡ true) × (sound two p (pointerOf (mapIn two p (now image))) ≡ true) ⌝ }
+    ensures { λ r. ⌜ seen (r .work) (r .writes) (r .tried) (chip (now (image .exit)) (now (lives .exit))) ≡ view (store two p count (chip (now (image .entry)) (now (lives .entry)))) ⌝ }
+{
+    let word = gray_of(count);
+    let mut writes = 0;
+    let mut tried = 0;
+    let mut slot = 0;
+    while slot < Map::SLOTS {
+        let stored = store_slot(image, lives, p, slot, code_of(nibble_of(word, slot % 8)));
+        let work = stored.work;
+        writes += stored.writes;
+        tried += stored.tried;
+        if let Work::Stopped(why) = work {
+            return Stored {
+                work: Work::Stopped(why),
+                writes,
+                tried,
+            };
+        }
+        slot += 1;
+    }
+    Stored {
+        work: Work::Done,
+        writes,
+        tried,
+    }
+}
