@@ -17,8 +17,10 @@ pub mod StoreViews
 pub mod StoreCosts
 pub mod Takes
 pub mod Openings
+pub mod OpeningViews
 pub mod ReadBack
 pub mod Exact
 pub mod GoodVerdicts
 pub mod Lags
+pub mod DoorViews
 pub mod Weighed

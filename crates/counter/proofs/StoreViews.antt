@@ -1,5 +1,6 @@
 -- What is said of storing, one law a turn, over what functions have said of its pieces, `v` and `u`.
 --   low-pointer, high-pointer the bytes of a pointer were put, by its slot's kind
+--   pointer-tried             a pointer tries no spare
 --   low-spares, high-near, high-far  the spares of a slot, as a row of cells
 --   GapFits, gap-fits         the gap that a fitting chip's pointers leave
 --   SpareHeld, spare-held     what a spare that holds leaves for the pointer
@@ -59,7 +60,7 @@ module _ (p : Places) (k a at : ℕ) (s : Chip) {v : Seen Found} (here : at ≡ 
   unfolding putPointer pointerBytes
   high-pointer h small e = let same : a % 256 ≡ a = omega arith in rw (kind-high k h, ← here, e, same)
 
-pointer-tried : (p : Places) (k a : ℕ) (s : Chip) → putPointer p k a s .tried ≡ 0
+pub pointer-tried : (p : Places) (k a : ℕ) (s : Chip) → putPointer p k a s .tried ≡ 0
 unfolding putPointer
 pointer-tried p k a s = row-tried (pointerBytes (kindOf k) a) (p .map + offsetOf k) s
 

@@ -4,7 +4,7 @@ use Prim.Native.Nat.{ℕ, _+_, _-_}
 use mathlib.Core.Path.{_≡_}
 use mathlib.Core.Bool.{Bool, not}
 use mathlib.Core.List.{List, []}
-use lib.IntN.{pos}
+use lib.IntN.{ℤ, pos}
 use lib.ListN.{length, take, drop}
 use lib.Dec.{leb, eqb}
 use Rattle.cells.specs.Chip.{Chip, pick}
@@ -34,19 +34,30 @@ chipVerdict copies p s = unless (livesGood s) BadLength (verdictOf copies p (s .
 unfoldable pub unopened : ℕ → Places → Chip → Bool
 unopened copies p s = fitted copies p s and not (marked (mapIn copies p (s .cells)))
 
--- Open, both mark bytes right: read c, store c. Open, else: a first opening, whose count is 0.
+-- Open, both mark bytes right: read c, store c.
+abbrev pub reopening : ℕ → Places → Chip → Run Verdict
+reopening copies p s = onGood (chipVerdict copies p s) (λ c lag. store copies p c s endingIn Good c lag) s
+
+-- Open, else: a first opening, whose count is 0.
+abbrev pub beginning : ℕ → Places → Chip → Run Verdict
+beginning copies p s = firstOpening copies p s endingIn Good 0 (pos 0)
+
 unfoldable pub openRun : ℕ → Places → Chip → Run Verdict
 openRun copies p s =
-    let first = firstOpening copies p s endingIn Good 0 (pos 0) in
-    let again = onGood (chipVerdict copies p s) (λ c lag. store copies p c s endingIn Good c lag) s in
+    let first = beginning copies p s in
+    let again = reopening copies p s in
     pick (unopened copies p s) first again
 
--- Step: read c, store c, then store c + 1.
+-- Step, from a count c with a lag that was read: store c, then store c + 1.
+abbrev pub stepping : ℕ → Places → ℕ → ℤ → Chip → Run Verdict
+stepping copies p c lag s = (store copies p c s andThen store copies p (c + 1)) endingIn Good (c + 1) lag
+
+-- Step: read c, and go on from it unless it is the last count.
 unfoldable pub stepRun : ℕ → Places → Chip → Run Verdict
 stepRun copies p s =
     onGood (chipVerdict copies p s)
     (λ c lag.
-    let stepped = (store copies p c s andThen store copies p (c + 1)) endingIn Good (c + 1) lag in
+    let stepped = stepping copies p c lag s in
     pick (eqb c lastCount) (still (Refused LastCount) s) stepped)
     s
 

@@ -3,9 +3,10 @@
 // the four doors.
 pub mod doors;
 pub mod map;
+pub mod opening;
 pub mod places;
 pub mod reading;
-pub mod store;
 pub mod soundness;
 pub mod spares;
+pub mod store;
 pub mod verdict;

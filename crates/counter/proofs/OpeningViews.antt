@@ -1,0 +1,297 @@
+-- What is said of a first opening, one law a turn, over what functions have said of its pieces, `v`, `w` and `m`.
+--   ready-same                a chip of the same lengths is as ready
+--   whole-fits, narrow-fits   the gaps of a first opening fit the image
+--   said-done, said-stopped   one piece of storing and then another, by how the first ended
+--   Lands, try-lands          where spares tried for a slot landed, and what that costs
+--   ahead                     addresses and writes in front of a taking
+--   takeLeft, take-left-..    what is left of taking addresses
+--   take-few                  it asks at most one write for each cell of the gap
+--   pointersLeft, pointers-left-..  what is left of putting pointers
+--   pointers-few              it asks at most two writes a pointer
+--   mark-said, mark-few       the mark
+--   opening-roomless, opening-unmapped, opening-mapped  the whole, by where it ended
+--   taken-whole, taken-reach, taking-few  the addresses taken are sixteen pointers, taken at few writes
+use Prim.Native.Nat.{ℕ, zero, suc, _+_, _-_, _*_, _≤_, _<_}
+use mathlib.Core.Path.{_≡_, refl, sym, ap, _∙_}
+use mathlib.Core.Bool.{true}
+use mathlib.Core.List.{List, [], _∷_, _++_, append-assoc, append-nil}
+use native.Mathlib.Nat.{add-zero, zero-add, add-assoc, sub-zero, sub-self}
+use native.Mathlib.Numerals.{add-one}
+use native.Mathlib.Omega.{arith}
+use lib.ListN.{length, getD, take, drop, set, length-append, length-take}
+use lib.Seq.{take-all, take-suc-set, drop-cons, drop-length}
+use Rattle.code.specs.Codes.{codeOf}
+use Rattle.cells.specs.declared.row.Found.{Found}
+use Rattle.cells.specs.declared.row.Found.the-variants.{At, Nowhere}
+use Rattle.cells.specs.Chip.{Chip, Paired}
+use Rattle.cells.specs.Run.{Run, Seen, seen, view, plus, _giving_}
+use Rattle.cells.specs.Row.{putRow}
+use Rattle.cells.proofs.Views.{plus-plus, said-then, said-answer}
+use Rattle.cells.proofs.Writes.{kept-paired}
+use Rattle.cells.proofs.Rows.{row-tried, row-cost}
+use Rattle.counter.specs.declared.map.Kind.{Kind}
+use Rattle.counter.specs.declared.map.Kind.the-variants.{High, Low}
+use Rattle.counter.specs.declared.places.Places.{Places}
+use Rattle.counter.specs.declared.spares.Gap.{Gap}
+use Rattle.counter.specs.declared.verdict.Work.{Work}
+use Rattle.counter.specs.declared.verdict.Work.the-variants.{Done, Stopped}
+use Rattle.counter.specs.declared.verdict.Refusal.{Refusal}
+use Rattle.counter.specs.declared.verdict.Refusal.the-variants.{NoSpare}
+use Rattle.counter.specs.Slots.{two, kindOf}
+use Rattle.counter.specs.Map.{markBytes, reachable, listed}
+use Rattle.counter.specs.Spares.{wholeArea, narrow}
+use Rattle.counter.specs.Verdict.{_andThen_}
+use Rattle.counter.specs.Store.{trySpares, putPointer, mapped}
+use Rattle.counter.specs.Opening.{Taken, taken, takeFrom, putPointers, putMark, untried, firstOpening}
+use Rattle.counter.proofs.SoundPointers.{sound-none, reach-test}
+use Rattle.counter.proofs.Gaps.{Free, between-none}
+use Rattle.counter.proofs.Ready.{Ready, ready-placed}
+use Rattle.counter.proofs.Fitted.{ready-short}
+use Rattle.counter.proofs.Tries.{room, Landing, Trying, Trying.missing, Trying.landing, try-laws}
+use Rattle.counter.proofs.Stores.{done-then, stopped-then}
+use Rattle.counter.proofs.StoreViews.{pointer-tried, GapFits}
+use Rattle.counter.proofs.StoreCosts.{pointer-few}
+use Rattle.counter.proofs.Takes.{AllTaken, take-laws}
+
+-- ## Settings
+
+-- a chip of the same lengths is as ready
+pub ready-same : {copies : ℕ} {p : Places} {s t : Chip} → Ready copies p s → length (t .cells) ≡ length (s .cells) → length (t .lives) ≡ length (s .lives) → Ready copies p t
+ready-same ready e f = record { paired = f ∙ ready .paired ∙ sym e; long = rw e (ready .long); good = rw e (ready .good) }
+
+-- ## Gaps
+
+pub whole-fits : {p : Places} {s : Chip} → Ready two p s → GapFits (length (s .cells)) (wholeArea p)
+unfolding wholeArea
+whole-fits ready = let placed = ready-placed ready in record { first = placed .startLow; reach = omega arith; ordered = omega arith; inside = omega arith }
+
+pub narrow-fits : {size a : ℕ} {g : Gap} (kind : Kind) → GapFits size g → Free kind g a → GapFits size (narrow kind a g)
+unfolding narrow
+narrow-fits High fits free = let h = free .reach refl in record { first = omega arith; reach = omega arith; ordered = omega arith; inside = fits .inside }
+narrow-fits Low fits free = record { first = fits .first; reach = fits .reach; ordered = omega arith; inside = omega arith }
+
+-- ## Work behind work
+
+module _ (r : Run Work) (work : Chip → Run Work) {v : Seen Work} (e : v ≡ view r) where
+  pub said-done : v .answer ≡ Done → view (r andThen work) ≡ plus (v .writes) (v .tried) (view (work (v .after)))
+  said-done h = rw (done-then r work (said-answer r e h)) (said-then r e work)
+
+  pub said-stopped : {why : Refusal} → v .answer ≡ Stopped why → view (r andThen work) ≡ seen (Stopped why) (v .writes) (v .tried) (v .after)
+  said-stopped {why} h = rw (stopped-then r work why (said-answer r e h), ← h, e)
+
+-- at most n writes asked, and no spare tried
+abbrev Few : ℕ → Seen Work → Type 0
+Few n v = (v .writes ≤ n) × (v .tried ≡ 0)
+
+then-few : {m n : ℕ} (r : Run Work) (work : Chip → Run Work) → Few m (view r) → Few n (view (work (r .after))) → Few (m + n) (view (r andThen work))
+then-few {m} {n} r work one rest = go (r .answer) refl
+  where
+    go : (w : Work) → r .answer ≡ w → Few (m + n) (view (r andThen work))
+    go Done h = rw (done-then r work h, length-append) (omega arith)
+    go (Stopped why) h = rw (stopped-then r work why h) (omega arith)
+
+-- ## Spares tried
+
+-- an address free in the gap, and what it leaves of the gap is paid for
+pub record Lands (k : ℕ) (g : Gap) (a writes : ℕ) : Type 0 where
+  pub free : Free (kindOf k) g a
+  pub cost : writes + room (narrow (kindOf k) a g) ≤ room g
+
+module _ (k : ℕ) (g : Gap) (b : ℕ) (s : Chip) {v : Seen Found} (e : v ≡ view (trySpares k g b s)) where
+  pub try-lands : Paired s → {a : ℕ} → v .answer ≡ At a → Lands k g a (v .writes)
+  try-lands paired {a} h = go (try-laws k g b s paired .trying)
+    where
+      here : trySpares k g b s .answer ≡ At a
+      here = said-answer (trySpares k g b s) e h
+
+      go : Trying k g b s → Lands k g a (v .writes)
+      go (missing m) = let q = m .nowhere in let z : _≡_ {A = ℕ} 0 1 = cc in absurd (omega arith)
+      go (landing m) =
+          let q = m .here in
+          let same : m .place ≡ a = cc in
+          rw (e, ← same) (record { free = m .free; cost = m .cost })
+
+-- ## Addresses taken
+
+abbrev pub ahead : List ℕ → ℕ → Seen Taken → Seen Taken
+ahead xs w v = seen (taken (v .answer .work) (xs ++ v .answer .addresses)) (w + v .writes) (v .tried) (v .after)
+
+ahead-ahead : (xs ys : List ℕ) (w x : ℕ) (v : Seen Taken) → ahead xs w (ahead ys x v) ≡ ahead (xs ++ ys) (w + x) v
+ahead-ahead xs ys w x v = simp (append-assoc, add-assoc)
+
+-- what is left of the taking for n slots when the first k have their addresses
+abbrev pub takeLeft : ℕ → ℕ → Gap → Chip → Run Taken
+takeLeft n k g s = untried (takeFrom (n - k) k g s)
+
+module _ (n : ℕ) where
+  pub take-left-all : (g : Gap) (s : Chip) → view (untried (takeFrom n 0 g s)) ≡ ahead [] 0 (view (takeLeft n 0 g s))
+  take-left-all g s = simp (sub-zero, zero-add)
+
+  pub take-left-none : (xs : List ℕ) (w k : ℕ) (g : Gap) (s : Chip) → k ≡ n → ahead xs w (view (takeLeft n k g s)) ≡ seen (taken Done xs) w 0 s
+  unfolding takeFrom
+  take-left-none xs w k g s e = rw (e, sub-self, append-nil, add-zero)
+
+  module _ (k : ℕ) (g : Gap) (b : ℕ) (s : Chip) (inside : k < n) (byte : b ≡ codeOf 0) {v : Seen Found} (e : v ≡ view (trySpares k g b s)) where
+    more : n - k ≡ suc (n - (k + 1))
+    more = omega arith
+
+    landed : {a : ℕ} → v .answer ≡ At a → view (takeLeft n k g s) ≡ ahead (a ∷ []) (v .writes) (view (takeLeft n (k + 1) (narrow (kindOf k) a g) (v .after)))
+    unfolding takeFrom
+    landed {a} h = rw (more, ← byte, said-answer (trySpares k g b s) e h, length-append, e)
+
+    missed : v .answer ≡ Nowhere → view (takeLeft n k g s) ≡ seen (taken (Stopped (NoSpare k)) []) (v .writes) 0 (v .after)
+    unfolding takeFrom
+    missed h = rw (more, ← byte, said-answer (trySpares k g b s) e h, length-append, add-zero, e)
+
+    pub take-left-landed :
+        {a : ℕ} {rest : Gap} (addresses : List ℕ) (w : ℕ)
+        → k < length addresses
+        → v .answer ≡ At a
+        → rest ≡ narrow (kindOf k) a g
+        → ahead (take k addresses) w (view (takeLeft n k g s)) ≡ ahead (take (k + 1) (set addresses k a)) (w + v .writes) (view (takeLeft n (k + 1) rest (v .after)))
+    take-left-landed {a} addresses w l h left =
+        let one : take (k + 1) (set addresses k a) ≡ take k addresses ++ (a ∷ []) = rw add-one (take-suc-set addresses k a l) in
+        rw (left, one) (ap (ahead (take k addresses) w) (landed h) ∙ ahead-ahead (take k addresses) (a ∷ []) w (v .writes) (view (takeLeft n (k + 1) (narrow (kindOf k) a g) (v .after))))
+
+    pub take-left-missed : (xs : List ℕ) (w : ℕ) → v .answer ≡ Nowhere → ahead xs w (view (takeLeft n k g s)) ≡ seen (taken (Stopped (NoSpare k)) xs) (w + v .writes) 0 (v .after)
+    take-left-missed xs w h = ap (ahead xs w) (missed h) ∙ rw append-nil
+
+-- it asks at most one write for each cell of the gap
+pub take-few : (n k : ℕ) (g : Gap) (s : Chip) → Paired s → length (takeFrom n k g s .log) ≤ room g
+unfolding takeFrom
+take-few zero k g s paired = omega arith
+take-few (suc n) k g s paired = go (try-laws k g (codeOf 0) s paired .trying) (λ m. take-few n (k + 1) (narrow (kindOf k) (m .place) g) (trySpares k g (codeOf 0) s .after) (kept-paired (m .kept) paired))
+  where
+    go : (t : Trying k g (codeOf 0) s)
+        → ((m : Landing k g (codeOf 0) s) → length (takeFrom n (k + 1) (narrow (kindOf k) (m .place) g) (trySpares k g (codeOf 0) s .after) .log) ≤ room (narrow (kindOf k) (m .place) g))
+        → length (takeFrom (suc n) k g s .log) ≤ room g
+    go (missing m) later = unfold takeFrom in (let h = m .cost in rw (m .nowhere, length-append) (omega arith))
+    go (landing m) later = unfold takeFrom in (let h = m .cost in let h′ = later m in rw (m .here, length-append) (omega arith))
+
+-- ## Pointers put
+
+-- what is left of putting addresses as pointers when k of them have been put
+abbrev pub pointersLeft : List ℕ → ℕ → Places → Chip → Run Work
+pointersLeft addresses k p s = putPointers (drop k addresses) k p s
+
+module _ (addresses : List ℕ) (p : Places) where
+  pub pointers-left-all : (s : Chip) → view (putPointers addresses 0 p s) ≡ plus 0 0 (view (pointersLeft addresses 0 p s))
+  pointers-left-all s = simp zero-add
+
+  pub pointers-left-none : (w k : ℕ) (s : Chip) → k ≡ length addresses → plus w 0 (view (pointersLeft addresses k p s)) ≡ seen Done w 0 s
+  unfolding putPointers
+  pointers-left-none w k s e = rw (e, drop-length addresses, add-zero w)
+
+  module _ (k : ℕ) (s : Chip) (inside : k < length addresses) {v : Seen Work} (e : v ≡ view (putPointer p k (getD addresses k 0) s)) where
+    abbrev one : Run Work
+    one = putPointer p k (getD addresses k 0) s
+
+    abbrev rest : Chip → Run Work
+    rest = putPointers (drop (k + 1) addresses) (k + 1) p
+
+    here : pointersLeft addresses k p s ≡ one andThen rest
+    unfolding putPointers
+    here = rw (drop-cons addresses k 0, add-one k)
+
+    none : v .tried ≡ 0
+    none = ap (λ (u : Seen Work). u .tried) e ∙ pointer-tried p k (getD addresses k 0) s
+
+    pub pointers-left-put : v .answer ≡ Done → view (pointersLeft addresses k p s) ≡ plus (v .writes) 0 (view (pointersLeft addresses (k + 1) p (v .after)))
+    pointers-left-put h = ap view here ∙ said-done one rest e h ∙ ap (λ (t : ℕ). plus (v .writes) t (view (rest (v .after)))) none
+
+    pub pointers-left-stopped : {why : Refusal} → v .answer ≡ Stopped why → view (pointersLeft addresses k p s) ≡ seen (Stopped why) (v .writes) 0 (v .after)
+    pointers-left-stopped {why} h = ap view here ∙ said-stopped one rest e h ∙ ap (λ (t : ℕ). seen (Stopped why) (v .writes) t (v .after)) none
+
+pointers-cost : (addresses : List ℕ) (k : ℕ) (p : Places) (s : Chip) → Few (2 * length addresses) (view (putPointers addresses k p s))
+unfolding putPointers
+pointers-cost [] k p s = (omega arith, refl)
+pointers-cost (a ∷ rest) k p s =
+    let sum : 2 * suc (length rest) ≡ 2 + 2 * length rest = omega arith in
+    rw sum (then-few (putPointer p k a s) (putPointers rest (k + 1) p) (pointer-few p k a s refl, pointer-tried p k a s) (pointers-cost rest (k + 1) p (putPointer p k a s .after)))
+
+pub pointers-few : (addresses : List ℕ) (k : ℕ) (p : Places) (s : Chip) {v : Seen Work} → v ≡ view (putPointers addresses k p s) → (v .writes ≤ 2 * length addresses) × (v .tried ≡ 0)
+pointers-few addresses k p s e = rw e (pointers-cost addresses k p s)
+
+-- ## The mark
+
+pub mark-said : (p : Places) (s : Chip) {v : Seen Found} → v ≡ view (putRow markBytes (p .map) s) → view (putMark p s) ≡ seen (mapped (v .answer)) (v .writes) (v .tried) (v .after)
+unfolding putMark
+mark-said p s e = rw e
+
+pub mark-few : (p : Places) (s : Chip) {v : Seen Work} → v ≡ view (putMark p s) → (v .writes ≤ 2) × (v .tried ≡ 0)
+unfolding putMark
+mark-few p s e = rw e (row-cost markBytes (p .map) s, row-tried markBytes (p .map) s)
+
+-- ## The whole
+
+module _ (p : Places) (s : Chip) {v : Seen Taken} (e : v ≡ view (untried (takeFrom 16 0 (wholeArea p) s))) where
+  abbrev taking : Run Taken
+  taking = untried (takeFrom 16 0 (wholeArea p) s)
+
+  abbrev saidTaking : Seen Work
+  saidTaking = seen (v .answer .work) (v .writes) (v .tried) (v .after)
+
+  opening-taken : v .answer .work ≡ Done → view (firstOpening two p s) ≡ plus (v .writes) (v .tried) (view (putPointers (v .answer .addresses) 0 p (v .after) andThen putMark p))
+  unfolding firstOpening
+  opening-taken h = said-done (taking giving taking .answer .work) (λ t. putPointers (taking .answer .addresses) 0 p t andThen putMark p) {v = saidTaking} (rw e) h ∙ rw e
+
+  pub opening-roomless : {why : Refusal} → v .answer .work ≡ Stopped why → view (firstOpening two p s) ≡ seen (Stopped why) (v .writes) (v .tried) (v .after)
+  unfolding firstOpening
+  opening-roomless h = said-stopped (taking giving taking .answer .work) (λ t. putPointers (taking .answer .addresses) 0 p t andThen putMark p) {v = saidTaking} (rw e) h
+
+  module _ (h : v .answer .work ≡ Done) {addresses : List ℕ} (whole : v .answer .addresses ≡ addresses) {w : Seen Work} (f : w ≡ view (putPointers addresses 0 p (v .after))) where
+    abbrev pointing : Run Work
+    pointing = putPointers addresses 0 p (v .after)
+
+    mapping : view (firstOpening two p s) ≡ plus (v .writes) (v .tried) (view (pointing andThen putMark p))
+    mapping = rw (← whole) (opening-taken h)
+
+    none-taking : v .tried ≡ 0
+    none-taking = ap (λ (u : Seen Taken). u .tried) e
+
+    none-pointing : w .tried ≡ 0
+    none-pointing = pointers-few addresses 0 p (v .after) f .1
+
+    pub opening-unmapped : {why : Refusal} → w .answer ≡ Stopped why → view (firstOpening two p s) ≡ seen (Stopped why) (v .writes + w .writes) 0 (w .after)
+    opening-unmapped {why} g =
+        let none : v .tried + w .tried ≡ 0 = omega (arith, none-taking, none-pointing) in
+        mapping ∙ ap (plus (v .writes) (v .tried)) (said-stopped pointing (putMark p) f g) ∙ ap (λ (t : ℕ). seen (Stopped why) (v .writes + w .writes) t (w .after)) none
+
+    pub opening-mapped : w .answer ≡ Done → {m : Seen Work} → m ≡ view (putMark p (w .after)) → view (firstOpening two p s) ≡ seen (m .answer) (v .writes + w .writes + m .writes) 0 (m .after)
+    opening-mapped g {m} d =
+        let none : v .tried + w .tried + m .tried ≡ 0 = omega (arith, none-taking, none-pointing, mark-few p (w .after) d .1) in
+        mapping
+        ∙ ap (plus (v .writes) (v .tried)) (said-done pointing (putMark p) f g)
+        ∙ plus-plus (v .writes) (v .tried) (w .writes) (w .tried) (view (putMark p (w .after)))
+        ∙ ap (plus (v .writes + w .writes) (v .tried + w .tried)) (sym d)
+        ∙ ap (λ (t : ℕ). seen (m .answer) (v .writes + w .writes + m .writes) t (m .after)) none
+
+  module _ (ready : Ready two p s) (h : v .answer .work ≡ Done) where
+    all : AllTaken 16 0 (wholeArea p) (takeFrom 16 0 (wholeArea p) s)
+    all = take-laws 16 0 (wholeArea p) s (ready .paired) .all (sym (ap (λ (w : Seen Taken). w .answer .work) e) ∙ h)
+
+    taken-many : length (v .answer .addresses) ≡ 16
+    taken-many = rw e (all .many)
+
+    -- an array of sixteen, so many of which were taken, was taken whole
+    pub taken-whole : (count : ℕ) (addresses : List ℕ) → v .answer .addresses ≡ take count addresses → length addresses ≡ 16 → take count addresses ≡ addresses
+    taken-whole count addresses same size = take-all count addresses (omega (arith, length-take count addresses, ap length same, taken-many))
+
+    -- the addresses taken can be put as pointers
+    pub taken-reach : (k : ℕ) → k < 16 → (getD (v .answer .addresses) k 0 < 65536) × (reachable (kindOf k) (getD (v .answer .addresses) k 0) ≡ true)
+    unfolding wholeArea
+    taken-reach k l =
+        let addresses = taking .answer .addresses in
+        let sound = all .sound p (listed addresses) (λ j l. rw zero-add) (between-none p _) (sound-none p _) in
+        let to = all .inside k l .to in
+        let fits = ready-placed ready .endFits in
+        let short = ready-short ready in
+        rw e (omega arith, reach-test (kindOf k) (getD addresses k 0) (sound .reach k (omega arith)))
+
+  pub taking-few : Ready two p s → v .writes ≤ 4096
+  unfolding wholeArea
+  taking-few ready =
+      let few = take-few 16 0 (wholeArea p) s (ready .paired) in
+      let fits = ready-placed ready .endFits in
+      let short = ready-short ready in
+      rw e (omega arith)

@@ -1,0 +1,70 @@
+-- `doors::is_unmarked` meets its contract.
+use mathlib.Core.Path.{_≡_, sym, ap, _∙_}
+use mathlib.Core.Bool.{true, not}
+use borrow.Author.Tests.{not-true, not-false}
+use native.Mathlib.Omega.{arith}
+use lib.ListN.{length}
+use Rattle.counter.specs.Slots.{two}
+use Rattle.counter.specs.Places.{lengthGood, placesGood}
+use Rattle.counter.specs.Map.{marked}
+use Rattle.counter.proofs.Settings.{good-placed}
+use Rattle.counter.proofs.MapBytes.{map-part}
+use borrow.Author.Needs.{needs}
+use Rattle.counter.proofs.doors.is_unmarked.Statement.{statement}
+use Rattle.counter.proofs.doors.is_unmarked.Tie as tie
+
+length-good-requires : tie.Need-length-good-requires
+length-good-requires c κs = search needs
+
+returns : tie.Need-returns
+returns c = rw (sym (c .before .length-good .ensures) ∙ not-true _ (c .if1 .taken))
+
+-- the length is good
+long : (c : tie.Else1) → lengthGood two (length (c .before .before .before .args .image .now)) ≡ true
+long c = sym (c .before .length-good .ensures) ∙ not-false _ (c .if1 .left)
+
+places-good-requires : tie.Need-places-good-requires
+places-good-requires c κs = search needs
+
+returns-2 : tie.Need-returns-2
+returns-2 c = rw (long (c .before .before), sym (c .before .places-good .ensures) ∙ not-true _ (c .if2 .taken))
+
+-- and so are the settings
+placed : (c : tie.Else2) → let s = c .before .before .before .before .before .args in placesGood two (length (s .image .now)) (s .p) ≡ true
+placed c = sym (c .before .places-good .ensures) ∙ not-false _ (c .if2 .left)
+
+add-to : tie.Need-add-to
+add-to c = let good = good-placed two _ _ (placed c) in omega arith
+
+sub-is-marked : tie.Need-sub-is-marked
+sub-is-marked c = search needs
+
+part-is-marked-start : tie.Need-part-is-marked-start
+part-is-marked-start c = search needs
+
+part-is-marked-end : tie.Need-part-is-marked-end
+part-is-marked-end c = let good = good-placed two _ _ (placed c) in omega arith
+
+is-marked-requires : tie.Need-is-marked-requires
+is-marked-requires c κs = search needs
+
+returns-3 : tie.Need-returns-3
+returns-3 c =
+    let good = c .before .before in
+    let s = good .before .before .before .before .before .args in
+    rw (long (good .before .before), placed good) (ap not (c .is-marked .ensures ∙ ap marked (map-part two (s .p) (s .image .now))))
+
+pub is-unmarked-spec : {M : Type 1} → statement M
+is-unmarked-spec =
+    tie.close
+    (tie.spec
+    length-good-requires
+    returns
+    places-good-requires
+    returns-2
+    add-to
+    sub-is-marked
+    part-is-marked-start
+    part-is-marked-end
+    is-marked-requires
+    returns-3)

@@ -1,0 +1,86 @@
+-- `doors::reopen` meets its contract.
+use mathlib.Core.Path.{_≡_, sym, ap, _∙_}
+use lib.IntN.{ℤ}
+use mir.Syntax.{w64}
+use mir.Facts.{toZ-ofZ}
+use Rattle.cells.specs.Chip.{chip}
+use Rattle.counter.specs.declared.verdict.Answer.{Answer}
+use Rattle.counter.specs.declared.verdict.Verdict.the-variants.{Good, Refused}
+use Rattle.counter.specs.Slots.{two}
+use Rattle.counter.specs.Verdict.{outcome, outcomeOf, _endingIn_}
+use Rattle.counter.specs.Store.{store}
+use Rattle.counter.specs.Doors.{chipVerdict}
+use Rattle.counter.proofs.DoorViews.{outcome-ending, outcome-refused, chip-verdict, good-settled, reopening-good, reopening-refused}
+use borrow.Author.Needs.{needs}
+use Rattle.counter.proofs.doors.reopen.Statement.{statement}
+use Rattle.counter.proofs.doors.reopen.Tie as tie
+
+verdict-of-requires : tie.Need-verdict-of-requires
+verdict-of-requires c κs = search needs
+
+enum-known-verdict : tie.Need-enum-known-verdict
+enum-known-verdict c = search needs
+
+-- the chip reads as a count
+good : (c : tie.After-known-told) → let s = c .before .before .before .before .before .before .before in
+    chipVerdict two (s .args .p) (chip (s .args .image .now) (s .args .lives .now)) ≡ Good (c .before .verdict .given .0 .0) (c .before .verdict .given .0 .1 .0)
+good c =
+    let s = c .before .before .before .before .before .before .before in
+    chip-verdict two _ _ (s .pre) ∙ sym (c .before .before .before .verdict-of .ensures) ∙ c .before .verdict .given .1
+
+store-count-requires : tie.Need-store-count-requires
+store-count-requires c κs = good-settled two _ _ (good (c .before .before))
+
+finished-requires : tie.Need-finished-requires
+finished-requires c κs = search needs
+
+enum-known-verdict-2 : tie.Need-enum-known-verdict-2
+enum-known-verdict-2 c = search needs
+
+refusal-of-requires : tie.Need-refusal-of-requires
+refusal-of-requires c κs = search needs
+
+same-length : tie.Need-same-length
+same-length c = search needs
+
+same-length-2 : tie.Need-same-length-2
+same-length-2 c = search needs
+
+returns : tie.Need-returns
+returns c =
+    let stored = c .before .before .before .before .before .store-count in
+    let told = c .before .before .before .before .before .before .before .before in
+    let s = told .before .before .before .before .before .before .before .args in
+    let count = told .before .verdict .given .0 .0 in
+    let lag = told .before .verdict .given .0 .1 .0 in
+    let exact = toZ-ofZ {w = w64} {z = lag} (record { sfits = told .known-told .given .1 .0 .1 }) in
+    ap (λ (a : Answer). outcome a (chip (stored .last .0) (stored .last .1 .0))) (c .finished .ensures)
+    ∙ outcome-ending (store two _ count _) (stored .ensures) _
+    ∙ ap (λ (z : ℤ). outcomeOf (store two (s .p) count (chip (s .image .now) (s .lives .now)) endingIn Good count z)) exact
+    ∙ ap outcomeOf (sym (reopening-good two _ _ count lag (good told)))
+
+same-length-3 : tie.Need-same-length-3
+same-length-3 c = search needs
+
+returns-2 : tie.Need-returns-2
+returns-2 c =
+    let s = c .before .before .before .before .before .before .before .before in
+    let refused = chip-verdict two _ _ (s .pre) ∙ sym (c .before .before .before .before .verdict-of .ensures) ∙ c .before .before .verdict2 .given .1 in
+    ap (λ (a : Answer). outcome a (chip (s .args .image .now) (s .args .lives .now))) (c .refusal-of .ensures)
+    ∙ outcome-refused (reopening-refused two _ _ _ refused)
+
+pub reopen-spec : {M : Type 1} → statement M
+reopen-spec =
+    tie.close
+    (tie.spec
+    verdict-of-requires
+    enum-known-verdict
+    store-count-requires
+    finished-requires
+    enum-known-verdict-2
+    refusal-of-requires
+    same-length
+    same-length-2
+    returns
+    same-length-3
+    returns-2)

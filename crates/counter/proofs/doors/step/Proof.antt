@@ -1,0 +1,140 @@
+-- `doors::step` keeps its promise.
+use Prim.Native.Nat.{ℕ, _+_, _≤_, _<_}
+use mathlib.Core.Path.{_≡_, sym, ap, _∙_}
+use native.Mathlib.Omega.{arith}
+use lib.IntN.{ℤ}
+use mir.Syntax.{w64}
+use mir.Facts.{toZ-ofZ}
+use Rattle.cells.specs.Chip.{chip}
+use Rattle.counter.specs.declared.verdict.Answer.{Answer}
+use Rattle.counter.specs.declared.verdict.Verdict.{Verdict}
+use Rattle.counter.specs.declared.verdict.Verdict.the-variants.{Good, Refused}
+use Rattle.counter.specs.Slots.{two}
+use Rattle.counter.specs.Places.{places}
+use Rattle.counter.specs.Verdict.{outcome, outcomeOf, _endingIn_, _andThen_}
+use Rattle.counter.specs.Store.{store}
+use Rattle.counter.specs.Doors.{chipVerdict, stepping, stepOf}
+use Rattle.counter.proofs.GoodVerdicts.{verdict-good}
+use Rattle.counter.proofs.DoorViews.{outcome-ending, outcome-refused, chip-verdict, good-settled, step-unpaired, step-refused, step-last, step-on}
+use borrow.Author.Needs.{needs}
+use Rattle.counter.proofs.doors.step.Statement.{statement}
+use Rattle.counter.proofs.doors.step.Tie as tie
+
+refusal-of-requires : tie.Need-refusal-of-requires
+refusal-of-requires c κs = search needs
+
+returns : tie.Need-returns
+unfolding stepOf
+returns c =
+    let s = c .before .before .before .before .args in
+    ap (λ (a : Answer). outcome a (chip (s .image .now) (s .lives .now))) (c .refusal-of .ensures)
+    ∙ outcome-refused (step-unpaired two _ _ (c .before .if1 .taken))
+
+verdict-of-requires : tie.Need-verdict-of-requires
+verdict-of-requires c κs = search needs
+
+-- what the chip reads as
+reads : (c : tie.After-verdict-of) → let s = c .before .before .before .before .before .args in
+    chipVerdict two (places (s .m) (s .s) (s .e)) (chip (s .image .now) (s .lives .now)) ≡ c .verdict-of .result
+reads c = chip-verdict two _ _ (c .before .before .if1 .left) ∙ sym (c .verdict-of .ensures)
+
+enum-known-verdict : tie.Need-enum-known-verdict
+enum-known-verdict c = search needs
+
+refusal-of-requires-2 : tie.Need-refusal-of-requires-2
+refusal-of-requires-2 c κs = search needs
+
+same-length : tie.Need-same-length
+same-length c = search needs
+
+-- it reads as a count
+good : (c : tie.After-known-told) → let s = c .before .before .before .before .before .before .before .before .args in
+    chipVerdict two (places (s .m) (s .s) (s .e)) (chip (s .image .now) (s .lives .now)) ≡ Good (c .before .verdict .given .0 .0) (c .before .verdict .given .0 .1 .0)
+good c = reads (c .before .before .before) ∙ c .before .verdict .given .1
+
+returns-2 : tie.Need-returns-2
+unfolding stepOf
+returns-2 c =
+    let told = c .before .before in
+    let s = told .before .before .before .before .before .before .before .before .args in
+    ap (λ (a : Answer). outcome a (chip (s .image .now) (s .lives .now))) (c .refusal-of2 .ensures)
+    ∙ outcome-refused (step-last two _ _ _ _ (good told) (c .before .if2 .taken))
+
+-- a count of 32 bits that is not the last
+below : {c : ℕ} → c < 4294967296 → (c ≡ 4294967295 → ⊥) → c < 4294967295
+below small other = omega arith
+
+advance-requires : tie.Need-advance-requires
+advance-requires c κs =
+    let told = c .before .before .before in
+    let fit = good-settled two _ _ (good told) in
+    let small = verdict-good two _ _ (good told) .1 .small in
+    (fit .0, fit .1, below small (c .before .before .if2 .left))
+
+add-t25 : tie.Need-add-t25
+add-t25 c = search needs
+
+finished-requires : tie.Need-finished-requires
+finished-requires c κs = search needs
+
+enum-known-verdict-2 : tie.Need-enum-known-verdict-2
+enum-known-verdict-2 c = search needs
+
+refusal-of-requires-3 : tie.Need-refusal-of-requires-3
+refusal-of-requires-3 c κs = search needs
+
+same-length-2 : tie.Need-same-length-2
+same-length-2 c = search needs
+
+same-length-3 : tie.Need-same-length-3
+same-length-3 c = search needs
+
+returns-3 : tie.Need-returns-3
+unfolding stepOf
+returns-3 c =
+    let stored = c .before .before .before .before .before .advance in
+    let if = c .before .before .before .before .before .before .before .before in
+    let told = if .before in
+    let s = told .before .before .before .before .before .before .before .before .args in
+    let p = places (s .m) (s .s) (s .e) in
+    let lent = chip (s .image .now) (s .lives .now) in
+    let count = told .before .verdict .given .0 .0 in
+    let lag = told .before .verdict .given .0 .1 .0 in
+    let exact = toZ-ofZ {w = w64} {z = lag} (record { sfits = told .known-told .given .1 .0 .1 }) in
+    ap (λ (a : Answer). outcome a (chip (stored .last .0) (stored .last .1 .0))) (c .finished .ensures)
+    ∙ outcome-ending (store two p count lent andThen store two p (count + 1)) (stored .ensures) _
+    ∙ ap (λ (z : ℤ). outcomeOf (stepping two p count z lent)) exact
+    ∙ ap outcomeOf (sym (step-on two _ _ count lag (good told) (if .if2 .left)))
+
+same-length-4 : tie.Need-same-length-4
+same-length-4 c = search needs
+
+returns-4 : tie.Need-returns-4
+unfolding stepOf
+returns-4 c =
+    let read = c .before .before .before .before in
+    let s = read .before .before .before .before .before .args in
+    ap (λ (a : Answer). outcome a (chip (s .image .now) (s .lives .now))) (c .refusal-of3 .ensures)
+    ∙ outcome-refused (step-refused two _ _ _ (reads read ∙ c .before .before .verdict2 .given .1))
+
+pub step-spec : {M : Type 1} → statement M
+step-spec =
+    tie.close
+    (tie.spec
+    refusal-of-requires
+    returns
+    verdict-of-requires
+    enum-known-verdict
+    refusal-of-requires-2
+    same-length
+    returns-2
+    advance-requires
+    add-t25
+    finished-requires
+    enum-known-verdict-2
+    refusal-of-requires-3
+    same-length-2
+    same-length-3
+    returns-3
+    same-length-4
+    returns-4)

@@ -1,0 +1,131 @@
+-- `opening::open_first` meets its contract: all addresses are taken, then all pointers put, then the mark.
+use mathlib.Core.Path.{_≡_, refl, sym, _∙_}
+use borrow.Author.Needs.{needs}
+use native.Mathlib.Omega.{arith}
+use lib.ListN.{length, take, length-map}
+use Rattle.counter.proofs.Fitted.{fitted-ready, ready-fitted}
+use Rattle.counter.proofs.OpeningViews.{ready-same, taken-whole, taken-reach, taking-few, pointers-few, mark-few, opening-roomless, opening-unmapped, opening-mapped}
+use Rattle.counter.proofs.opening.open_first.Statement.{statement}
+use Rattle.counter.proofs.opening.open_first.Tie as tie
+
+take-addresses-requires : tie.Need-take-addresses-requires
+take-addresses-requires c κs = search needs
+
+enum-known-work : tie.Need-enum-known-work
+enum-known-work c = search needs
+
+same-length : tie.Need-same-length
+same-length c = search needs
+
+same-length-2 : tie.Need-same-length-2
+same-length-2 c = search needs
+
+returns : tie.Need-returns
+returns c = sym (opening-roomless _ _ (c .before .before .before .before .before .before .before .before .take-addresses .ensures) (c .before .work .given .1))
+
+enum-told : tie.Need-enum-told
+enum-told c = search needs
+
+-- the array has its sixteen elements
+sixteen : (c : tie.After-take-addresses) → length (c .take-addresses .result .addresses) ≡ 16
+sixteen c = simp length-map at (c .take-addresses .ok .1 .1 .1 .0 .1 .0 .1)
+
+-- once the taking is done, its addresses are all of the array
+whole : (c : tie.After-enum-told) → let r = c .before .before .before .before .before .before .before .take-addresses .result in take (r .count) (r .addresses) ≡ r .addresses
+whole c =
+    let took = c .before .before .before .before .before .before .before in
+    taken-whole _ _ (took .take-addresses .ensures) (fitted-ready (took .before .before .before .before .before .pre)) (c .enum-told .given .1) (took .take-addresses .result .count) _ refl (sixteen took)
+
+put-pointers-requires : tie.Need-put-pointers-requires
+put-pointers-requires c κs =
+    let done = c .before .before .before in
+    let took = done .before .before .before .before .before .before .before in
+    let ready = fitted-ready (took .before .before .before .before .before .pre) in (
+      ready-fitted (ready-same ready (took .take-addresses .kept .0) (took .take-addresses .kept .1 .0)),
+      sixteen took,
+      λ k l. rw (whole done) at (taken-reach _ _ (took .take-addresses .ensures) ready (done .enum-told .given .1) k l),
+    )
+
+add-writes : tie.Need-add-writes
+add-writes c =
+    let put = c .before .before .before .before .before .before in
+    let took = put .before .before .before .before .before .before .before .before .before .before .before in
+    omega (
+      arith,
+      taking-few _ _ (took .take-addresses .ensures) (fitted-ready (took .before .before .before .before .before .pre)),
+      pointers-few _ _ _ _ (put .put-pointers .ensures) .0,
+      sixteen took,
+    )
+
+enum-known-work-2 : tie.Need-enum-known-work-2
+enum-known-work-2 c = search needs
+
+same-length-3 : tie.Need-same-length-3
+same-length-3 c = search needs
+
+same-length-4 : tie.Need-same-length-4
+same-length-4 c = search needs
+
+returns-2 : tie.Need-returns-2
+returns-2 c =
+    let put = c .before .before .before .before .before .before .before .before .before in
+    let done = put .before .before .before .before in
+    sym (opening-unmapped _ _ (done .before .before .before .before .before .before .before .take-addresses .ensures) (done .enum-told .given .1) (whole done) (put .put-pointers .ensures) (c .before .work2 .given .1))
+
+enum-told-2 : tie.Need-enum-told-2
+enum-told-2 c = search needs
+
+put-mark-requires : tie.Need-put-mark-requires
+put-mark-requires c κs =
+    let put = c .before .before .before .before .before .before .before .before .before .before in
+    let took = put .before .before .before .before .before .before .before .before .before .before .before in
+    ready-fitted (ready-same (fitted-ready (took .before .before .before .before .before .pre)) (put .put-pointers .kept .0 ∙ took .take-addresses .kept .0) (put .put-pointers .kept .1 .0 ∙ took .take-addresses .kept .1 .0))
+
+add-t29 : tie.Need-add-t29
+add-t29 c =
+    let mark = c .before .before .before .before .before in
+    let put = mark .before .before .before .before .before .before .before .before .before .before .before in
+    let took = put .before .before .before .before .before .before .before .before .before .before .before in
+    omega (
+      arith,
+      taking-few _ _ (took .take-addresses .ensures) (fitted-ready (took .before .before .before .before .before .pre)),
+      pointers-few _ _ _ _ (put .put-pointers .ensures) .0,
+      mark-few _ _ (mark .put-mark .ensures) .0,
+      sixteen took,
+    )
+
+same-length-5 : tie.Need-same-length-5
+same-length-5 c = search needs
+
+same-length-6 : tie.Need-same-length-6
+same-length-6 c = search needs
+
+returns-3 : tie.Need-returns-3
+returns-3 c =
+    let mark = c .before .before .before .before .before in
+    let put = mark .before .before .before .before .before .before .before .before .before .before .before in
+    let done = put .before .before .before .before in
+    sym (opening-mapped _ _ (done .before .before .before .before .before .before .before .take-addresses .ensures) (done .enum-told .given .1) (whole done) (put .put-pointers .ensures) (mark .before .before .before .enum-told2 .given .1) (mark .put-mark .ensures))
+
+pub open-first-spec : {M : Type 1} → statement M
+open-first-spec =
+    tie.close
+    (tie.spec
+    take-addresses-requires
+    enum-known-work
+    same-length
+    same-length-2
+    returns
+    enum-told
+    put-pointers-requires
+    add-writes
+    enum-known-work-2
+    same-length-3
+    same-length-4
+    returns-2
+    enum-told-2
+    put-mark-requires
+    add-t29
+    same-length-5
+    same-length-6
+    returns-3)

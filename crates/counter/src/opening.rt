@@ -1,0 +1,137 @@
+// A first opening (document 01, "Storing, opening, stepping"): all addresses are taken, then all pointers put,
+// then the mark.
+ghost use mathlib.Core.Path.{_≡_};
+ghost use mathlib.Core.Bool.{true};
+ghost use Prim.Native.Nat.{ℕ, _<_};
+ghost use lib.ListN.{length, getD, take};
+ghost use Rattle.cells.specs.Chip.{chip};
+ghost use Rattle.cells.specs.Run.{seen, view};
+ghost use Rattle.counter.specs.Slots.{two, kindOf};
+ghost use Rattle.counter.specs.Places.{fitted};
+ghost use Rattle.counter.specs.Map.{reachable};
+ghost use Rattle.counter.specs.Spares.{wholeArea};
+ghost use Rattle.counter.specs.Opening.{taken, takeFrom, putPointers, putMark, untried, firstOpening};
+use super::map::Map;
+use super::places::Places;
+use super::spares::narrowed;
+use super::spares::whole_area;
+use super::store::Stored;
+use super::store::mapped;
+use super::store::put_pointer;
+use super::store::try_spares;
+use super::verdict::Refusal;
+use super::verdict::Work;
+use cells::row::Found;
+use cells::row::put_row;
+use code::codes::code_of;
+
+// How the taking ended, the addresses taken, as many as `count`, and the writes asked for.
+struct Takings {
+    work: Work,
+    addresses: [usize; 16],
+    count: usize,
+    writes: usize,
+}
+
+// 80 put for every slot, each at the next address of its kind that holds it.
+fn take_addresses(image: &mut [u8], lives: &mut [u32], p: Places) -> Takings
+    requires { ⌜ fitted two p (chip (now image) (now lives)) ≡ true ⌝ }
+    ensures { λ r. ⌜ seen (taken (r .work) (take (r .count) (r .addresses))) (r .writes) 0 (chip (now (image .exit)) (now (lives .exit))) ≡ view (untried (takeFrom 16 0 (wholeArea p) (chip (now (image .entry)) (now (lives .entry))))) ⌝ }
+{
+    let mut addresses = [0usize; 16];
+    let mut gap = whole_area(p);
+    let mut writes = 0;
+    let mut slot = 0;
+    while slot < Map::SLOTS {
+        let walked = try_spares(image, lives, slot, gap, code_of(0));
+        let found = walked.found;
+        writes += walked.writes;
+        let Found::At(a) = found else {
+            return Takings {
+                work: Work::Stopped(Refusal::NoSpare(slot)),
+                addresses,
+                count: slot,
+                writes,
+            };
+        };
+        addresses[slot] = a;
+        gap = narrowed(slot, a, gap);
+        slot += 1;
+    }
+    Takings {
+        work: Work::Done,
+        addresses,
+        count: slot,
+        writes,
+    }
+}
+
+// Addresses put as the pointers of all slots, in order.
+fn put_pointers(image: &mut [u8], lives: &mut [u32], p: Places, addresses: &[usize; 16]) -> Stored
+    requires { ⌜ (fitted two p (chip (now image) (now lives)) ≡ true) × (length (now addresses) ≡ 16) × ((k : ℕ) → k < 16 → (getD (now addresses) k 0 < 65536) × (reachable (kindOf k) (getD (now addresses) k 0) ≡ true)) ⌝ }
+    ensures { λ r. ⌜ seen (r .work) (r .writes) (r .tried) (chip (now (image .exit)) (now (lives .exit))) ≡ view (putPointers (now (addresses .entry)) 0 p (chip (now (image .entry)) (now (lives .entry)))) ⌝ }
+{
+    let mut writes = 0;
+    let mut slot = 0;
+    while slot < Map::SLOTS {
+        let done = put_pointer(image, lives, p, slot, addresses[slot]);
+        let work = done.work;
+        writes += done.writes;
+        if let Work::Stopped(why) = work {
+            return Stored {
+                work: Work::Stopped(why),
+                writes,
+                tried: 0,
+            };
+        }
+        slot += 1;
+    }
+    Stored {
+        work: Work::Done,
+        writes,
+        tried: 0,
+    }
+}
+
+// The mark, A5 and then 5A.
+fn put_mark(image: &mut [u8], lives: &mut [u32], p: Places) -> Stored
+    requires { ⌜ fitted two p (chip (now image) (now lives)) ≡ true ⌝ }
+    ensures { λ r. ⌜ seen (r .work) (r .writes) (r .tried) (chip (now (image .exit)) (now (lives .exit))) ≡ view (putMark p (chip (now (image .entry)) (now (lives .entry)))) ⌝ }
+{
+    let mark = [Map::MARK_FIRST, Map::MARK_SECOND];
+    mapped(put_row(image, lives, p.map, &mark))
+}
+
+// All of it, up to what stops it.
+pub fn open_first(image: &mut [u8], lives: &mut [u32], p: Places) -> Stored
+    requires { ⌜ fitted two p (chip (now image) (now lives)) ≡ true ⌝ }
+    ensures { λ r. ⌜ seen (r .work) (r .writes) (r .tried) (chip (now (image .exit)) (now (lives .exit))) ≡ view (firstOpening two p (chip (now (image .entry)) (now (lives .entry)))) ⌝ }
+{
+    let takings = take_addresses(image, lives, p);
+    let work = takings.work;
+    let addresses = takings.addresses;
+    if let Work::Stopped(why) = work {
+        return Stored {
+            work: Work::Stopped(why),
+            writes: takings.writes,
+            tried: 0,
+        };
+    }
+    let put = put_pointers(image, lives, p, &addresses);
+    let work = put.work;
+    let writes = takings.writes + put.writes;
+    if let Work::Stopped(why) = work {
+        return Stored {
+            work: Work::Stopped(why),
+            writes,
+            tried: 0,
+        };
+    }
+    let mark = put_mark(image, lives, p);
+    let work = mark.work;
+    Stored {
+        work,
+        writes: writes + mark.writes,
+        tried: 0,
+    }
+}
