@@ -2,14 +2,14 @@
 --   outcome-ending            of storing that ends a call
 --   outcome-refused           of a refusal that touched nothing
 --   chip-verdict              a chip lent with its lives reads as its cells do
---   chip-fitted, chip-unopened  and is tested as they are
+--   chip-fitted               and is fit to be opened, if they are unmarked
 --   reopening-good, reopening-refused  a marked chip opened again
---   open-unpaired, open-first, open-again  the work of open
+--   open-unpaired, open-unfit, open-unmarked, open-marked  the work of open
 --   step-unpaired, step-refused, step-last, step-on  the work of step, by what the chip reads as
 --   good-settled              a good verdict finds the chip fitted, and its map sound
 use Prim.Native.Nat.{ℕ, _+_}
 use mathlib.Core.Path.{_≡_, refl, sym, ap, _∙_}
-use mathlib.Core.Bool.{Bool, true, false, not}
+use mathlib.Core.Bool.{true, false}
 use lib.IntN.{ℤ, pos}
 use lib.Dec.{eqb}
 use lib.ListN.{length}
@@ -22,13 +22,15 @@ use Rattle.counter.specs.declared.verdict.Verdict.{Verdict}
 use Rattle.counter.specs.declared.verdict.Verdict.the-variants.{Good, Refused}
 use Rattle.counter.specs.declared.verdict.Refusal.{Refusal}
 use Rattle.counter.specs.declared.verdict.Refusal.the-variants.{BadLength, LastCount}
-use Rattle.counter.specs.Slots.{_and_}
-use Rattle.counter.specs.Places.{lengthGood, placesGood, livesGood, fitted}
-use Rattle.counter.specs.Map.{mapIn, marked, pointerOf, sound}
+use Rattle.counter.specs.declared.standing.Standing.the-variants.{Unfit, Unmarked, Marked}
+use Rattle.counter.specs.Standing.{standingOf}
+use Rattle.counter.specs.Places.{livesGood, fitted}
+use Rattle.counter.specs.Map.{mapIn, pointerOf, sound}
 use Rattle.counter.specs.Verdict.{outcome, outcomeOf, refusalOf, answerOf, ending, _endingIn_}
 use Rattle.counter.specs.Reading.{verdictOf}
 use Rattle.counter.specs.Store.{store}
 use Rattle.counter.proofs.SoundPointers.{sound-test}
+use Rattle.counter.proofs.Standings.{stands-unfit, stands-unmarked, stands-marked, guard-unfit}
 use Rattle.counter.proofs.Fitted.{ready-fitted}
 use Rattle.counter.proofs.GoodVerdicts.{verdict-good}
 use Rattle.counter.specs.Doors.{lastCount, chipVerdict, unopened, reopening, beginning, openRun, stepping, stepRun}
@@ -54,18 +56,22 @@ module _ (copies : ℕ) (p : Places) (s : Chip) where
     unfolding chipVerdict
     chip-verdict = rw lives
 
-    pub chip-fitted : lengthGood copies (length (s .cells)) ≡ true → placesGood copies (length (s .cells)) p ≡ true → fitted copies p s ≡ true
+    -- and is opened as they stand
+    pub chip-fitted : standingOf copies p (s .cells) ≡ Unmarked → fitted copies p s ≡ true
     unfolding fitted
-    chip-fitted long placed = rw (lives, long, placed)
+    chip-fitted e = let facts = stands-unmarked copies p (s .cells) e in rw (lives, facts .0, facts .1)
 
-    pub chip-unopened : unopened copies p s
-        ≡ lengthGood copies (length (s .cells)) and placesGood copies (length (s .cells)) p and not (marked (mapIn copies p (s .cells)))
-    unfolding unopened fitted
-    chip-unopened = rw lives (grouped (lengthGood copies (length (s .cells))) (placesGood copies (length (s .cells)) p) _)
-      where
-        grouped : (a b c : Bool) → (a and b) and c ≡ a and b and c
-        grouped true b c = refl
-        grouped false b c = refl
+    pub open-unmarked : standingOf copies p (s .cells) ≡ Unmarked → openRun copies p s ≡ beginning copies p s
+    unfolding openRun unopened
+    open-unmarked e = let facts = stands-unmarked copies p (s .cells) e in rw (chip-fitted e, facts .2)
+
+    pub open-marked : standingOf copies p (s .cells) ≡ Marked → openRun copies p s ≡ reopening copies p s
+    unfolding openRun unopened fitted
+    open-marked e = let facts = stands-marked copies p (s .cells) e in rw (lives, facts .0, facts .1, facts .2)
+
+    pub open-unfit : {why : Refusal} → standingOf copies p (s .cells) ≡ Unfit why → openRun copies p s ≡ still (Refused why) s
+    unfolding openRun unopened fitted verdictOf
+    open-unfit e = rw (lives, stands-unfit copies p (s .cells) e, chip-verdict ∙ guard-unfit copies p (s .cells) _ e)
 
   module _ (unpaired : length (s .lives) ≡ length (s .cells) → ⊥) where
     lifeless : livesGood s ≡ false
@@ -83,14 +89,6 @@ module _ (copies : ℕ) (p : Places) (s : Chip) where
     pub step-unpaired : stepRun copies p s ≡ still (Refused BadLength) s
     unfolding stepRun
     step-unpaired = rw chip-unpaired
-
-  pub open-first : unopened copies p s ≡ true → openRun copies p s ≡ beginning copies p s
-  unfolding openRun
-  open-first e = rw e
-
-  pub open-again : unopened copies p s ≡ false → openRun copies p s ≡ reopening copies p s
-  unfolding openRun
-  open-again e = rw e
 
   module _ (why : Refusal) (e : chipVerdict copies p s ≡ Refused why) where
     pub reopening-refused : reopening copies p s ≡ still (Refused why) s

@@ -22,5 +22,7 @@ pub mod ReadBack
 pub mod Exact
 pub mod GoodVerdicts
 pub mod Lags
+pub mod Standings
 pub mod DoorViews
+pub mod Parts
 pub mod Weighed

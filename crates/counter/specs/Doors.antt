@@ -9,16 +9,17 @@ use lib.ListN.{length, take, drop}
 use lib.Dec.{leb, eqb}
 use Rattle.cells.specs.Chip.{Chip, pick}
 use Rattle.cells.specs.Run.{Run, still}
+use Rattle.counter.specs.declared.doors.Part.{Part}
 use Rattle.counter.specs.declared.places.Places.{Places}
 use Rattle.counter.specs.declared.verdict.Answer.{Answer}
 use Rattle.counter.specs.declared.verdict.Verdict.{Verdict}
 use Rattle.counter.specs.declared.verdict.Verdict.the-variants.{Good, Refused}
-use Rattle.counter.specs.declared.verdict.Refusal.the-variants.{BadLength, BadPlaces, NoMark, UnsoundMap, BadCopy, LastCount}
+use Rattle.counter.specs.declared.verdict.Refusal.the-variants.{BadLength, UnsoundMap, BadCopy, LastCount}
 use Rattle.counter.specs.Slots.{two, _and_}
-use Rattle.counter.specs.Places.{lengthGood, placesGood, livesGood, fitted}
+use Rattle.counter.specs.Places.{livesGood, fitted}
 use Rattle.counter.specs.Map.{mapIn, marked, pointerOf, sound, partAt}
 use Rattle.counter.specs.Verdict.{Outcome, outcome, outcomeOf, refusalOf, answerOf, onGood, _endingIn_, _andThen_}
-use Rattle.counter.specs.Reading.{unless, verdictOf}
+use Rattle.counter.specs.Reading.{unless, guarded, verdictOf}
 use Rattle.counter.specs.Store.{store}
 use Rattle.counter.specs.Opening.{firstOpening}
 
@@ -72,23 +73,16 @@ unfoldable pub readOf : ℕ → Places → List ℕ → Answer
 readOf copies p cells = answerOf (verdictOf copies p cells) 0 0
 
 -- Map part: its code, and where in the image the part starts and how long it is.
-pub record Part : Type 0 where
-  pub code : ℕ
-  pub start : ℕ
-  pub size : ℕ
-
 abbrev pub part : ℕ → ℕ → ℕ → Part
 part code start size = record { code = code; start = start; size = size }
 
 -- the tests of map part, in the order of the table; what the data read as is not among them
 unfoldable pub partVerdict : ℕ → Places → List ℕ → ℕ → Verdict
 partVerdict copies p cells copy =
-    unless (lengthGood copies (length cells)) BadLength
-    (unless (placesGood copies (length cells) p) BadPlaces
-    (unless (marked (mapIn copies p cells)) NoMark
+    guarded copies p cells
     (unless (sound copies p (pointerOf (mapIn copies p cells))) UnsoundMap
     (unless (leb 1 copy and leb copy copies) BadCopy
-    (Good 0 (pos 0))))))
+    (Good 0 (pos 0))))
 
 -- the eleven cells of a copy, or, on a refusal, an empty part
 abbrev pub partOn : Verdict → Places → ℕ → Part

@@ -93,10 +93,14 @@ examine copies p cells =
     let map = mapIn copies p cells in
     unless (sound copies p (pointerOf map)) UnsoundMap (weigh copies (dataAt cells map))
 
--- what an image reads as, by the tests in the order of the table
-unfoldable pub verdictOf : ℕ → Places → List ℕ → Verdict
-verdictOf copies p cells =
+-- the first tests of every door, in the order of the table: refusals 1, 2 and 3, or the rest
+abbrev pub guarded : ℕ → Places → List ℕ → Verdict → Verdict
+guarded copies p cells rest =
     unless (lengthGood copies (length cells)) BadLength
     (unless (placesGood copies (length cells) p) BadPlaces
     (unless (marked (mapIn copies p cells)) NoMark
-    (examine copies p cells)))
+    rest))
+
+-- what an image reads as
+unfoldable pub verdictOf : ℕ → Places → List ℕ → Verdict
+verdictOf copies p cells = guarded copies p cells (examine copies p cells)

@@ -1,24 +1,27 @@
 // The four doors (document 01, "Storing, opening, stepping" and "What comes back"). None of them asks anything
 // of its caller: every image, setting and life has its answer.
 ghost use mathlib.Core.Path.{_≡_};
-ghost use mathlib.Core.Bool.{true, not};
+ghost use mathlib.Core.Bool.{true};
 ghost use Prim.Native.Nat.{_+_, _<_};
 ghost use lib.ListN.{length};
+ghost use denote.Ref.{ptr};
 ghost use Rattle.cells.specs.Chip.{chip};
 ghost use Rattle.cells.specs.Run.{seen, view};
-ghost use Rattle.counter.specs.Slots.{two, _and_};
-ghost use Rattle.counter.specs.Places.{places, lengthGood, placesGood, fitted};
-ghost use Rattle.counter.specs.Map.{mapIn, marked, pointerOf, sound};
+ghost use Rattle.counter.specs.Slots.{two};
+ghost use Rattle.counter.specs.Standing.{standingOf};
+ghost use Rattle.counter.specs.Places.{places, fitted};
+ghost use Rattle.counter.specs.Map.{mapIn, pointerOf, sound};
 ghost use Rattle.counter.specs.Verdict.{ending, answerOf, outcome, outcomeOf, _andThen_};
 ghost use Rattle.counter.specs.Store.{store};
-ghost use Rattle.counter.specs.Doors.{beginning, reopening, Opens, Steps, Reads};
+ghost use Rattle.counter.specs.Doors.{beginning, reopening, partVerdict, mapPartOf, Opens, Steps, Reads, HandsBack};
 use super::map::Map;
-use super::map::is_marked;
+use super::map::pointers_in;
 use super::opening::open_first;
 use super::places::Places;
-use super::places::length_good;
-use super::places::places_good;
 use super::reading::verdict_of;
+use super::soundness::is_sound;
+use super::standing::Standing;
+use super::standing::standing_of;
 use super::store::Stored;
 use super::store::store_count;
 use super::verdict::Answer;
@@ -27,6 +30,13 @@ use super::verdict::Verdict;
 use super::verdict::Work;
 use super::verdict::answer_of;
 use super::verdict::refusal_of;
+
+// Which part of an image map part hands back, and its code.
+pub struct Part {
+    pub code: u32,
+    pub start: usize,
+    pub size: usize,
+}
 
 // The highest count of 32 bits.
 const LAST_COUNT: u32 = 4294967295;
@@ -52,21 +62,6 @@ fn finished(verdict: Verdict, stored: Stored) -> Answer
         Work::Done => answer_of(verdict, stored.writes, stored.tried),
         Work::Stopped(why) => refusal_of(why, stored.writes, stored.tried),
     }
-}
-
-// Whether the length and the settings are good and the mark is not there.
-fn is_unmarked(image: &[u8], p: Places) -> bool
-    ensures { λ r. ⌜ r ≡ lengthGood two (length (now (image .entry))) and placesGood two (length (now (image .entry))) p and not (marked (mapIn two p (now (image .entry)))) ⌝ }
-{
-    if !length_good(image.len()) {
-        return false;
-    }
-    if !places_good(image.len(), p) {
-        return false;
-    }
-    let from = p.map;
-    let to = from + Map::SIZE;
-    !is_marked(&image[from..to])
 }
 
 // A first opening, whose count is 0.
@@ -105,10 +100,12 @@ pub fn open(image: &mut [u8], lives: &mut [u32], m: usize, s: usize, e: usize) -
     if lives.len() != image.len() {
         return refusal_of(Refusal::BadLength, 0, 0);
     }
-    if is_unmarked(image, p) {
-        return begin(image, lives, p);
+    let standing = standing_of(image, p);
+    match standing {
+        Standing::Unmarked => begin(image, lives, p),
+        Standing::Unfit(why) => refusal_of(why, 0, 0),
+        Standing::Marked => reopen(image, lives, p),
     }
-    reopen(image, lives, p)
 }
 
 // Two stores, one after the other: the count that was read, and the next.
@@ -157,4 +154,77 @@ pub fn step(image: &mut [u8], lives: &mut [u32], m: usize, s: usize, e: usize) -
         }
         Verdict::Refused(why) => refusal_of(why, 0, 0),
     }
+}
+
+// What map part finds in a marked image with good settings: refusals 4 and 16.
+fn part_verdict(image: &[u8], p: Places, copy: usize) -> Verdict
+    requires { ⌜ standingOf two p (now image) ≡ Standing.Marked ⌝ }
+    ensures { λ r. ⌜ r ≡ partVerdict two p (now (image .entry)) copy ⌝ }
+{
+    let pointers = pointers_in(image, p);
+    if !is_sound(&pointers, p) {
+        return Verdict::Refused(Refusal::UnsoundMap);
+    }
+    if copy < 1 {
+        return Verdict::Refused(Refusal::BadCopy);
+    }
+    if 2 < copy {
+        return Verdict::Refused(Refusal::BadCopy);
+    }
+    Verdict::Good(0, 0)
+}
+
+// What map part finds, by the tests in the order of the table.
+fn part_found(image: &[u8], p: Places, copy: usize) -> Verdict
+    ensures { λ r. ⌜ r ≡ partVerdict two p (now (image .entry)) copy ⌝ }
+{
+    let standing = standing_of(image, p);
+    match standing {
+        Standing::Unfit(why) => Verdict::Refused(why),
+        Standing::Unmarked => Verdict::Refused(Refusal::NoMark),
+        Standing::Marked => part_verdict(image, p, copy),
+    }
+}
+
+// Map part's code, and where in the image the part starts and how long it is; on a refusal it is empty.
+pub fn part_of(image: &[u8], m: usize, s: usize, e: usize, copy: u32) -> Part
+    ensures { λ r. ⌜ r ≡ mapPartOf two (places m s e) (now (image .entry)) copy ⌝ }
+{
+    let p = Places {
+        map: m,
+        start: s,
+        end: e,
+    };
+    let number = copy as usize;
+    let verdict = part_found(image, p, number);
+    match verdict {
+        Verdict::Good(_, _) => Part {
+            code: 0,
+            start: m + (Map::FIRST_COPY + Map::COPY_SIZE * (number - 1)),
+            size: Map::COPY_SIZE,
+        },
+        Verdict::Refused(why) => Part {
+            code: refusal_of(why, 0, 0).code,
+            start: 0,
+            size: 0,
+        },
+    }
+}
+
+// Hands back the eleven map cells of a copy, 1 or 2, as a part of the image itself, and sets the code.
+pub fn map_part<'a>(
+    image: &'a [u8],
+    m: usize,
+    s: usize,
+    e: usize,
+    copy: u32,
+    code: &mut u32,
+) -> &'a [u8]
+    ensures { λ r. ⌜ HandsBack (λ start. ptr r ≡ (ptr (image .entry) .0, start + ptr (image .entry) .1)) (places m s e) (now (image .entry)) copy (now (code .exit)) (now r) ⌝ }
+{
+    let part = part_of(image, m, s, e, copy);
+    *code = part.code;
+    let start = part.start;
+    let end = start + part.size;
+    &image[start..end]
 }

@@ -8,5 +8,6 @@ pub mod places;
 pub mod reading;
 pub mod soundness;
 pub mod spares;
+pub mod standing;
 pub mod store;
 pub mod verdict;

@@ -1,10 +1,13 @@
 // The map (document 01, "The map"), handed on as the part of the image that starts at its place: its mark
 // and its pointers. Slot k stands for nibble k % 8 of copy k / 8.
 ghost use mathlib.Core.Path.{_≡_};
+ghost use mathlib.Core.Bool.{true};
 ghost use Prim.Native.Nat.{ℕ, _<_};
 ghost use lib.ListN.{length, getD};
-ghost use Rattle.counter.specs.Slots.{kindOf};
-ghost use Rattle.counter.specs.Map.{marked, offsetOf, pointerOf};
+ghost use Rattle.counter.specs.Slots.{two, kindOf};
+ghost use Rattle.counter.specs.Places.{placesGood};
+ghost use Rattle.counter.specs.Map.{mapIn, marked, offsetOf, pointerOf, listed};
+use super::places::Places;
 use code::table::wide;
 
 // High cells hold nibbles 3 to 7, Low cells nibbles 0 to 2.
@@ -101,4 +104,14 @@ pub fn pointers_of(map: &[u8]) -> [usize; 16]
         slot += 1;
     }
     pointers
+}
+
+// The pointers of the map of an image.
+pub fn pointers_in(image: &[u8], p: Places) -> [usize; 16]
+    requires { ⌜ placesGood two (length (now image)) p ≡ true ⌝ }
+    ensures { λ r. ⌜ ((k : ℕ) → k < 16 → listed r k ≡ pointerOf (mapIn two p (now (image .entry))) k) ⌝ }
+{
+    let from = p.map;
+    let to = from + Map::SIZE;
+    pointers_of(&image[from..to])
 }

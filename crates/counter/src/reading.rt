@@ -12,12 +12,11 @@ ghost use Rattle.counter.specs.Map.{listed};
 ghost use Rattle.counter.specs.Reading.{amiss, countIn, decide, weigh, examine, verdictOf};
 ghost use Rattle.counter.specs.Places.{lengthGood, placesGood};
 use super::map::Map;
-use super::map::is_marked;
-use super::map::pointers_of;
+use super::map::pointers_in;
 use super::places::Places;
-use super::places::length_good;
-use super::places::places_good;
 use super::soundness::is_sound;
+use super::standing::Standing;
+use super::standing::standing_of;
 use super::verdict::Refusal;
 use super::verdict::Verdict;
 use cells::row::Found;
@@ -152,9 +151,7 @@ pub fn examined(image: &[u8], p: Places) -> Verdict
     requires { ⌜ (lengthGood two (length (now image)) ≡ true) × (placesGood two (length (now image)) p ≡ true) ⌝ }
     ensures { λ r. ⌜ r ≡ examine two p (now (image .entry)) ⌝ }
 {
-    let from = p.map;
-    let to = from + Map::SIZE;
-    let pointers = pointers_of(&image[from..to]);
+    let pointers = pointers_in(image, p);
     if !is_sound(&pointers, p) {
         return Verdict::Refused(Refusal::UnsoundMap);
     }
@@ -166,16 +163,10 @@ pub fn examined(image: &[u8], p: Places) -> Verdict
 pub fn verdict_of(image: &[u8], p: Places) -> Verdict
     ensures { λ r. ⌜ r ≡ verdictOf two p (now (image .entry)) ⌝ }
 {
-    if !length_good(image.len()) {
-        return Verdict::Refused(Refusal::BadLength);
+    let standing = standing_of(image, p);
+    match standing {
+        Standing::Unfit(why) => Verdict::Refused(why),
+        Standing::Unmarked => Verdict::Refused(Refusal::NoMark),
+        Standing::Marked => examined(image, p),
     }
-    if !places_good(image.len(), p) {
-        return Verdict::Refused(Refusal::BadPlaces);
-    }
-    let from = p.map;
-    let to = from + Map::SIZE;
-    if !is_marked(&image[from..to]) {
-        return Verdict::Refused(Refusal::NoMark);
-    }
-    examined(image, p)
 }

@@ -1,92 +1,51 @@
--- `reading::verdict_of` meets its contract: the tests stand in the order of the table.
-use Prim.Native.Nat.{_+_}
+-- `reading::verdict_of` meets its contract.
 use mathlib.Core.Path.{_≡_, sym, ap, _∙_}
-use mathlib.Core.Bool.{true}
-use borrow.Author.Needs.{needs}
-use borrow.Author.Tests.{not-true, not-false}
-use native.Mathlib.Omega.{arith}
-use lib.ListN.{length}
 use Rattle.counter.specs.Slots.{two}
-use Rattle.counter.specs.Places.{lengthGood, placesGood}
-use Rattle.counter.specs.Map.{mapIn, marked}
+use Rattle.counter.proofs.Standings.{stands-marked, guard-unfit, guard-unmarked, guard-marked}
 use Rattle.counter.specs.Reading.{verdictOf}
-use Rattle.counter.proofs.Settings.{good-placed}
-use Rattle.counter.proofs.MapBytes.{map-part}
+use borrow.Author.Needs.{needs}
 use Rattle.counter.proofs.reading.verdict_of.Statement.{statement}
 use Rattle.counter.proofs.reading.verdict_of.Tie as tie
 
-length-good-requires : tie.Need-length-good-requires
-length-good-requires c κs = search needs
+standing-of-requires : tie.Need-standing-of-requires
+standing-of-requires c κs = search needs
+
+enum-known-standing : tie.Need-enum-known-standing
+enum-known-standing c = search needs
+
+enum-told : tie.Need-enum-told
+enum-told c = search needs
+
+enum-told-2 : tie.Need-enum-told-2
+enum-told-2 c = search needs
+
+examined-requires : tie.Need-examined-requires
+examined-requires c κs =
+    let facts = stands-marked two _ _ (sym (c .before .before .standing-of .ensures) ∙ c .enum-told2 .given .1) in
+    (facts .0, facts .1)
 
 returns : tie.Need-returns
 unfolding verdictOf
-returns c = rw (sym (c .before .length-good .ensures) ∙ not-true _ (c .if1 .taken))
-
-places-good-requires : tie.Need-places-good-requires
-places-good-requires c κs = search needs
-
--- the length is good
-long : (c : tie.Else1) → lengthGood two (length (c .before .before .before .args .image .now)) ≡ true
-long c = sym (c .before .length-good .ensures) ∙ not-false _ (c .if1 .left)
+returns c = sym (guard-unfit two _ _ _ (sym (c .before .before .before .standing-of .ensures) ∙ c .before .standing .given .1))
 
 returns-2 : tie.Need-returns-2
 unfolding verdictOf
-returns-2 c = rw (long (c .before .before), sym (c .before .places-good .ensures) ∙ not-true _ (c .if2 .taken))
-
--- and so are the settings
-placed : (c : tie.Else2) → let s = c .before .before .before .before .before .args in placesGood two (length (s .image .now)) (s .p) ≡ true
-placed c = sym (c .before .places-good .ensures) ∙ not-false _ (c .if2 .left)
-
-add-to : tie.Need-add-to
-add-to c = let good = good-placed two _ _ (placed c) in omega arith
-
-sub-is-marked : tie.Need-sub-is-marked
-sub-is-marked c = search needs
-
-part-is-marked-start : tie.Need-part-is-marked-start
-part-is-marked-start c = search needs
-
-part-is-marked-end : tie.Need-part-is-marked-end
-part-is-marked-end c = let good = good-placed two _ _ (placed c) in omega arith
-
-is-marked-requires : tie.Need-is-marked-requires
-is-marked-requires c κs = search needs
-
--- what was tested of the mark
-mark : (c : tie.After-is-marked) → let s = c .before .before .before .before .before .before .before .args in
-    marked (mapIn two (s .p) (s .image .now)) ≡ c .is-marked .result
-mark c =
-    let s = c .before .before .before .before .before .before .before .args in
-    sym (c .is-marked .ensures ∙ ap marked (map-part two (s .p) (s .image .now)))
+returns-2 c = sym (guard-unmarked two _ _ _ (sym (c .before .before .standing-of .ensures) ∙ c .enum-told .given .1))
 
 returns-3 : tie.Need-returns-3
 unfolding verdictOf
 returns-3 c =
-    let good = c .before .before .before in
-    rw (long (good .before .before), placed good, mark (c .before) ∙ not-true _ (c .if3 .taken))
-
-examined-requires : tie.Need-examined-requires
-examined-requires c κs = let good = c .before .before .before in (long (good .before .before), placed good)
-
-returns-4 : tie.Need-returns-4
-unfolding verdictOf
-returns-4 c =
-    let good = c .before .before .before .before in
-    rw (long (good .before .before), placed good, mark (c .before .before) ∙ not-false _ (c .before .if3 .left)) (c .examined .ensures)
+    c .examined .ensures ∙ sym (guard-marked two _ _ _ (sym (c .before .before .before .standing-of .ensures) ∙ c .before .enum-told2 .given .1))
 
 pub verdict-of-spec : {M : Type 1} → statement M
 verdict-of-spec =
     tie.close
     (tie.spec
-    length-good-requires
-    returns
-    places-good-requires
-    returns-2
-    add-to
-    sub-is-marked
-    part-is-marked-start
-    part-is-marked-end
-    is-marked-requires
-    returns-3
+    standing-of-requires
+    enum-known-standing
+    enum-told
+    enum-told-2
     examined-requires
-    returns-4)
+    returns
+    returns-2
+    returns-3)

@@ -1,22 +1,24 @@
--- `doors::is_unmarked` meets its contract.
+-- `standing::standing_of` meets its contract.
 use mathlib.Core.Path.{_≡_, sym, ap, _∙_}
-use mathlib.Core.Bool.{true, not}
+use mathlib.Core.Bool.{true}
 use borrow.Author.Tests.{not-true, not-false}
 use native.Mathlib.Omega.{arith}
 use lib.ListN.{length}
 use Rattle.counter.specs.Slots.{two}
 use Rattle.counter.specs.Places.{lengthGood, placesGood}
-use Rattle.counter.specs.Map.{marked}
+use Rattle.counter.specs.Map.{mapIn, marked}
+use Rattle.counter.specs.Standing.{standingOf}
 use Rattle.counter.proofs.Settings.{good-placed}
 use Rattle.counter.proofs.MapBytes.{map-part}
 use borrow.Author.Needs.{needs}
-use Rattle.counter.proofs.doors.is_unmarked.Statement.{statement}
-use Rattle.counter.proofs.doors.is_unmarked.Tie as tie
+use Rattle.counter.proofs.standing.standing_of.Statement.{statement}
+use Rattle.counter.proofs.standing.standing_of.Tie as tie
 
 length-good-requires : tie.Need-length-good-requires
 length-good-requires c κs = search needs
 
 returns : tie.Need-returns
+unfolding standingOf
 returns c = rw (sym (c .before .length-good .ensures) ∙ not-true _ (c .if1 .taken))
 
 -- the length is good
@@ -27,6 +29,7 @@ places-good-requires : tie.Need-places-good-requires
 places-good-requires c κs = search needs
 
 returns-2 : tie.Need-returns-2
+unfolding standingOf
 returns-2 c = rw (long (c .before .before), sym (c .before .places-good .ensures) ∙ not-true _ (c .if2 .taken))
 
 -- and so are the settings
@@ -48,14 +51,27 @@ part-is-marked-end c = let good = good-placed two _ _ (placed c) in omega arith
 is-marked-requires : tie.Need-is-marked-requires
 is-marked-requires c κs = search needs
 
-returns-3 : tie.Need-returns-3
-returns-3 c =
-    let good = c .before .before in
-    let s = good .before .before .before .before .before .args in
-    rw (long (good .before .before), placed good) (ap not (c .is-marked .ensures ∙ ap marked (map-part two (s .p) (s .image .now))))
+-- what was tested of the mark
+mark : (c : tie.After-is-marked) → let s = c .before .before .before .before .before .before .before .args in
+    marked (mapIn two (s .p) (s .image .now)) ≡ c .is-marked .result
+mark c =
+    let s = c .before .before .before .before .before .before .before .args in
+    sym (c .is-marked .ensures ∙ ap marked (map-part two (s .p) (s .image .now)))
 
-pub is-unmarked-spec : {M : Type 1} → statement M
-is-unmarked-spec =
+returns-3 : tie.Need-returns-3
+unfolding standingOf
+returns-3 c =
+    let good = c .before .before .before in
+    rw (long (good .before .before), placed good, mark (c .before) ∙ c .if3 .taken)
+
+returns-4 : tie.Need-returns-4
+unfolding standingOf
+returns-4 c =
+    let good = c .before .before .before in
+    rw (long (good .before .before), placed good, mark (c .before) ∙ c .if3 .left)
+
+pub standing-of-spec : {M : Type 1} → statement M
+standing-of-spec =
     tie.close
     (tie.spec
     length-good-requires
@@ -67,4 +83,5 @@ is-unmarked-spec =
     part-is-marked-start
     part-is-marked-end
     is-marked-requires
-    returns-3)
+    returns-3
+    returns-4)

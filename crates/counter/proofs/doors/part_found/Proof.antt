@@ -1,0 +1,47 @@
+-- `doors::part_found` meets its contract.
+use mathlib.Core.Path.{_≡_, sym, ap, _∙_}
+use Rattle.counter.specs.Slots.{two}
+use Rattle.counter.proofs.Standings.{stands-marked, guard-unfit, guard-unmarked}
+use Rattle.counter.specs.Doors.{partVerdict}
+use borrow.Author.Needs.{needs}
+use Rattle.counter.proofs.doors.part_found.Statement.{statement}
+use Rattle.counter.proofs.doors.part_found.Tie as tie
+
+standing-of-requires : tie.Need-standing-of-requires
+standing-of-requires c κs = search needs
+
+enum-known-standing : tie.Need-enum-known-standing
+enum-known-standing c = search needs
+
+enum-told : tie.Need-enum-told
+enum-told c = search needs
+
+enum-told-2 : tie.Need-enum-told-2
+enum-told-2 c = search needs
+
+part-verdict-requires : tie.Need-part-verdict-requires
+part-verdict-requires c κs = sym (c .before .before .standing-of .ensures) ∙ c .enum-told2 .given .1
+
+returns : tie.Need-returns
+unfolding partVerdict
+returns c = sym (guard-unfit two _ _ _ (sym (c .before .before .before .standing-of .ensures) ∙ c .before .standing .given .1))
+
+returns-2 : tie.Need-returns-2
+unfolding partVerdict
+returns-2 c = sym (guard-unmarked two _ _ _ (sym (c .before .before .standing-of .ensures) ∙ c .enum-told .given .1))
+
+returns-3 : tie.Need-returns-3
+returns-3 c = search needs
+
+pub part-found-spec : {M : Type 1} → statement M
+part-found-spec =
+    tie.close
+    (tie.spec
+    standing-of-requires
+    enum-known-standing
+    enum-told
+    enum-told-2
+    part-verdict-requires
+    returns
+    returns-2
+    returns-3)

@@ -1,0 +1,71 @@
+-- `doors::part_of` meets its contract.
+use mathlib.Core.Path.{_≡_, refl, sym, ap, _∙_}
+use Prim.Native.Nat.{ℕ}
+use native.Mathlib.Omega.{arith}
+use Rattle.counter.specs.declared.verdict.Answer.{Answer}
+use Rattle.counter.specs.declared.verdict.Verdict.the-variants.{Good}
+use Rattle.counter.specs.Places.{places}
+use Rattle.counter.specs.Slots.{two}
+use Rattle.counter.specs.Doors.{part, partVerdict}
+use Rattle.counter.proofs.Parts.{Parted, parted, part-good, part-refused}
+use borrow.Author.Needs.{needs}
+use Rattle.counter.proofs.doors.part_of.Statement.{statement}
+use Rattle.counter.proofs.doors.part_of.Tie as tie
+
+part-found-requires : tie.Need-part-found-requires
+part-found-requires c κs = search needs
+
+enum-told : tie.Need-enum-told
+enum-told c = search needs
+
+-- what was found, where it is good
+found : (c : tie.After-enum-told) → let s = c .before .before .before .before .args in
+    partVerdict two (places (s .m) (s .s) (s .e)) (s .image .now) (s .copy) ≡ Good (c .enum-told .given .0 .0) (c .enum-told .given .0 .1 .0)
+found c = sym (c .before .before .part-found .ensures) ∙ c .enum-told .given .1
+
+good : (c : tie.After-enum-told) → let s = c .before .before .before .before .args in Parted (places (s .m) (s .s) (s .e)) (s .image .now) (s .copy)
+good c = parted _ _ _ (found c)
+
+sub-t11 : tie.Need-sub-t11
+sub-t11 c = good c .first
+
+mul-t12 : tie.Need-mul-t12
+mul-t12 c = search needs
+
+add-t13 : tie.Need-add-t13
+add-t13 c = search needs
+
+add-t14 : tie.Need-add-t14
+add-t14 c =
+    let inside = good c .inside in
+    let size = c .before .before .before .before .good .0 .0 in
+    omega arith
+
+enum-known-verdict : tie.Need-enum-known-verdict
+enum-known-verdict c = search needs
+
+refusal-of-requires : tie.Need-refusal-of-requires
+refusal-of-requires c κs = search needs
+
+returns : tie.Need-returns
+returns c = sym (part-good _ _ _ (found c))
+
+returns-2 : tie.Need-returns-2
+returns-2 c =
+    ap (λ (a : Answer). part (a .code) 0 0) (c .refusal-of .ensures)
+    ∙ sym (part-refused _ _ _ (sym (c .before .before .before .before .part-found .ensures) ∙ c .before .before .verdict .given .1))
+
+pub part-of-spec : {M : Type 1} → statement M
+part-of-spec =
+    tie.close
+    (tie.spec
+    part-found-requires
+    enum-told
+    sub-t11
+    mul-t12
+    add-t13
+    add-t14
+    enum-known-verdict
+    refusal-of-requires
+    returns
+    returns-2)

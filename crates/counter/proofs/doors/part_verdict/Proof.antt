@@ -1,0 +1,61 @@
+-- `doors::part_verdict` meets its contract.
+use mathlib.Core.Path.{_≡_, sym, _∙_}
+use borrow.Author.Tests.{le-leb, lt-leb, not-true, not-false}
+use native.Mathlib.Omega.{arith}
+use Rattle.counter.specs.Slots.{two}
+use Rattle.counter.specs.Map.{mapIn, pointerOf, sound}
+use Rattle.counter.specs.Doors.{partVerdict}
+use Rattle.counter.proofs.Settings.{good-placed, length-good}
+use Rattle.counter.proofs.SoundPointers.{sound-agree}
+use Rattle.counter.proofs.Standings.{stands-marked, guard-marked}
+use Rattle.counter.proofs.doors.part_verdict.Statement.{statement}
+use Rattle.counter.proofs.doors.part_verdict.Tie as tie
+
+pointers-in-requires : tie.Need-pointers-in-requires
+pointers-in-requires c κs = stands-marked two _ _ (c .before .pre) .1
+
+is-sound-requires : tie.Need-is-sound-requires
+is-sound-requires c κs =
+    let facts = stands-marked two _ _ (c .before .before .before .pre) in
+    let placed = good-placed two _ _ (facts .1) in
+    let long = length-good two _ (facts .0) in
+    omega arith
+
+-- what was tested of the map
+tested : (c : tie.After-is-sound) → let s = c .before .before .before .before .args in
+    sound two (s .p) (pointerOf (mapIn two (s .p) (s .image .now))) ≡ c .is-sound .result
+tested c = sym (c .is-sound .ensures ∙ sound-agree two _ _ _ (c .before .before .pointers-in .ensures))
+
+returns : tie.Need-returns
+unfolding partVerdict
+returns c =
+    sym (guard-marked two _ _ _ (c .before .before .before .before .before .pre) ∙ rw (tested (c .before) ∙ not-true _ (c .if1 .taken)))
+
+returns-2 : tie.Need-returns-2
+unfolding partVerdict
+returns-2 c =
+    let test = c .before in
+    sym
+    (guard-marked two _ _ _ (test .before .before .before .before .before .pre)
+    ∙ rw (tested (test .before) ∙ not-false _ (test .if1 .left), lt-leb _ _ (c .if2 .taken)))
+
+returns-3 : tie.Need-returns-3
+unfolding partVerdict
+returns-3 c =
+    let test = c .before .before in
+    sym
+    (guard-marked two _ _ _ (test .before .before .before .before .before .pre)
+    ∙ rw (tested (test .before) ∙ not-false _ (test .if1 .left), le-leb _ _ (c .before .if2 .left), lt-leb _ _ (c .if3 .taken)))
+
+returns-4 : tie.Need-returns-4
+unfolding partVerdict
+returns-4 c =
+    let test = c .before .before in
+    sym
+    (guard-marked two _ _ _ (test .before .before .before .before .before .pre)
+    ∙ rw (tested (test .before) ∙ not-false _ (test .if1 .left), le-leb _ _ (c .before .if2 .left), le-leb _ _ (c .if3 .left)))
+
+pub part-verdict-spec : {M : Type 1} → statement M
+part-verdict-spec =
+    tie.close
+    (tie.spec pointers-in-requires is-sound-requires returns returns-2 returns-3 returns-4)
