@@ -4,6 +4,7 @@
 --   Maps, maps-laws           both, one behind the other
 --   Opened                    what a first opening comes to where it is done
 --   Opens, opening-laws       the laws of a first opening
+--   whole-inside              the whole area is the area
 --   zero-code                 the code of 0 is what every slot holds at count 0
 use Prim.Native.Nat.{ℕ, _%_, zero, suc, _+_, _≤_, _<_}
 use mathlib.Core.Path.{_≡_, refl, sym, ap, _∙_}
@@ -218,7 +219,7 @@ pub record Opens (copies : ℕ) (p : Places) (s : Chip) (r : Run Work) : Type 0 
   pub opened : r .answer ≡ Done → Opened copies p (r .after)
   pub ended : Ended (r .answer)
 
-whole-inside : (p : Places) (c : ℕ) → InGap (wholeArea p) c → Inside p c
+pub whole-inside : (p : Places) (c : ℕ) → InGap (wholeArea p) c → Inside p c
 unfolding wholeArea
 whole-inside p c i = let h = i .from in let h′ = i .to in record { from = omega arith; to = omega arith }
 

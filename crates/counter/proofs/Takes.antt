@@ -1,5 +1,6 @@
 -- Addresses taken in a first opening: what it keeps, what it changes.
 --   InGap                     an address lies in a gap
+--   narrow-inside, narrow-other  what a free address leaves of a gap lies in it, and is another
 --   AllTaken                  what the taking comes to where it is done
 --   Takes, take-laws          the laws of taking addresses for the n slots from k on
 use Prim.Native.Nat.{ℕ, zero, suc, _+_, _≤_, _<_}
@@ -55,12 +56,12 @@ pub record Takes (n k : ℕ) (g : Gap) (s : Chip) (r : Run TakenRun) : Type 0 wh
   pub either : (r .answer .work ≡ Done) ⊎ ((j : ℕ) × (r .answer .work ≡ Stopped (NoSpare j)))
 
 -- what lies in the gap that a free address leaves lies in the gap, and is another
-narrow-inside : (kind : Kind) (g : Gap) (a c : ℕ) → Free kind g a → InGap (narrow kind a g) c → InGap g c
+pub narrow-inside : (kind : Kind) (g : Gap) (a c : ℕ) → Free kind g a → InGap (narrow kind a g) c → InGap g c
 unfolding narrow
 narrow-inside High g a c f i = let h = i .from in let h′ = i .to in record { from = omega arith; to = omega arith }
 narrow-inside Low g a c f i = let h = i .from in let h′ = i .to in record { from = omega arith; to = omega arith }
 
-narrow-other : (kind : Kind) (g : Gap) (a : ℕ) → InGap (narrow kind a g) a → ⊥
+pub narrow-other : (kind : Kind) (g : Gap) (a : ℕ) → InGap (narrow kind a g) a → ⊥
 unfolding narrow
 narrow-other High g a i = let h = i .from in omega arith
 narrow-other Low g a i = let h = i .to in omega arith

@@ -1,0 +1,141 @@
+-- The opening of a blank image in which every cell has life.
+--   BlankAlive                such an image, lent on good settings
+--   OpenCalm, open-calm       it answers, tries no spare, asks one write of each slot's cell and at most one of any other
+use Prim.Native.Nat.{ℕ, _+_, _≤_, _<_}
+use mathlib.Core.Path.{_≡_, ap, _∙_}
+use mathlib.Core.Bool.{true, false, not}
+use native.Mathlib.Omega.{arith}
+use lib.IntN.{pos}
+use lib.ListN.{length, getD}
+use borrow.Author.Tests.{eq-eqb}
+use Rattle.cells.specs.Chip.{Chip, cellAt, lifeAt}
+use Rattle.cells.specs.Run.{Run, _then_, _giving_}
+use Rattle.cells.specs.Log.{askedOf}
+use Rattle.cells.proofs.Logs.{asked-append, within-kept}
+use Rattle.counter.specs.declared.places.Places.{Places}
+use Rattle.counter.specs.declared.verdict.Verdict.the-variants.{Good}
+use Rattle.counter.specs.declared.verdict.Work.{Work}
+use Rattle.counter.specs.declared.verdict.Work.the-variants.{Done}
+use Rattle.counter.specs.Slots.{slots}
+use Rattle.counter.specs.Map.{mapIn, byteAt, marked}
+use Rattle.counter.specs.Spares.{wholeArea}
+use Rattle.counter.specs.Verdict.{ending, _endingIn_, _andThen_}
+use Rattle.counter.specs.Opening.{Taken, takeFrom, putPointers, putMark, untried, firstOpening}
+use Rattle.counter.specs.Doors.{unopened, openRun}
+use Rattle.counter.specs.Places.{livesGood}
+use Rattle.counter.proofs.CodeMore.{code-zero}
+use Rattle.promises.proofs.CellsMore.{asked-outside, Once, once-append}
+use Rattle.counter.proofs.RangeTests.{true-and}
+use Rattle.counter.proofs.MapBytes.{map-byte}
+use Rattle.counter.proofs.Fitted.{ready-fitted}
+use Rattle.counter.proofs.Ready.{pointers, Ready, InMap, ready-placed, ready-kept, inside-cell, apart-map}
+use Rattle.counter.proofs.Takes.{InGap, AllTaken, Takes, take-laws}
+use Rattle.counter.proofs.Openings.{whole-inside, opening-laws, Maps, maps-laws}
+use Rattle.counter.proofs.Exact.{Exact, exact-opened}
+use Rattle.promises.proofs.CalmTakes.{roomy-whole, CalmTake, calm-take}
+use Rattle.promises.proofs.CalmMaps.{Calmly, calm-maps}
+
+pub record BlankAlive (copies : ℕ) (p : Places) (s : Chip) : Type 0 where
+  pub ready : Ready copies p s
+  pub blank : (a : ℕ) → a < length (s .cells) → cellAt s a ≡ 0xFF
+  pub alive : (a : ℕ) → a < length (s .cells) → 1 ≤ lifeAt s a
+
+pub record OpenCalm (copies : ℕ) (p : Places) (s : Chip) : Type 0 where
+  pub answers : openRun copies p s .answer ≡ Good 0 (pos 0)
+  pub tried : openRun copies p s .tried ≡ 0
+  pub exact : Exact copies p 0 (openRun copies p s .after)
+  pub asked : (k : ℕ) → k < slots copies → askedOf (pointers copies p (openRun copies p s .after) k) (openRun copies p s .log) ≡ 1
+  pub once : Once (openRun copies p s .log)
+
+module _ {copies : ℕ} {p : Places} {s : Chip} (fresh : BlankAlive copies p s) where
+  -- ## The mark is not there
+
+  no-mark : marked (mapIn copies p (s .cells)) ≡ false
+  unfolding marked
+  no-mark =
+      let fits = ready-placed (fresh .ready) .mapFits in
+      let first : byteAt (mapIn copies p (s .cells)) 0 ≡ 0xFF = map-byte copies p (s .cells) 0 (omega arith) ∙ fresh .blank (p .map + 0) (omega arith) in
+      rw first
+
+  is-unopened : unopened copies p s ≡ true
+  unfolding unopened
+  is-unopened = true-and _ _ (ready-fitted (fresh .ready)) (ap not no-mark)
+
+  opens-first : openRun copies p s ≡ firstOpening copies p s endingIn Good 0 (pos 0)
+  unfolding openRun
+  opens-first = rw is-unopened
+
+  -- ## The addresses
+
+  abbrev taking : Run Taken
+  taking = takeFrom (slots copies) 0 (wholeArea p) s
+
+  inside : (c : ℕ) → InGap (wholeArea p) c → c < length (s .cells)
+  inside c i = inside-cell (fresh .ready) (whole-inside p c i)
+
+  taken-calm : CalmTake (slots copies) taking
+  taken-calm =
+      calm-take (slots copies) 0 (wholeArea p) s (roomy-whole (ready-placed (fresh .ready)))
+      (record {
+        paired = fresh .ready .paired;
+        alive = λ c i. fresh .alive c (inside c i);
+        other = λ c i e. let h = fresh .blank c (inside c i) in omega (arith, code-zero);
+      })
+
+  takes : Takes (slots copies) 0 (wholeArea p) s taking
+  takes = take-laws (slots copies) 0 (wholeArea p) s (fresh .ready .paired)
+
+  all : AllTaken (slots copies) 0 (wholeArea p) taking
+  all = takes .all (taken-calm .done)
+
+  -- ## The map
+
+  ready-taken : Ready copies p (taking .after)
+  ready-taken = ready-kept (fresh .ready) (within-kept (takes .within))
+
+  abbrev mapping : Run Work
+  mapping = putPointers (taking .answer .addresses) 0 p (taking .after) andThen putMark p
+
+  -- the cells of the map are none of the area
+  mapping-calm : Calmly (InMap copies p) mapping
+  mapping-calm =
+      calm-maps ready-taken (taking .answer .addresses) (all .many)
+      (λ c from to.
+      let fits = ready-placed (fresh .ready) .mapFits in
+      rw (within-kept (takes .within) .life c (λ i. apart-map (fresh .ready) (record { from = omega arith; to = to }) (whole-inside p c i)))
+      (fresh .alive c (omega arith)))
+
+  maps : Maps copies p (taking .answer .addresses) (taking .after) mapping
+  maps = maps-laws ready-taken (taking .answer .addresses) (all .many)
+
+  -- ## Both
+
+  opening-is : firstOpening copies p s ≡ (untried taking giving taking .answer .work) then mapping
+  unfolding firstOpening
+  opening-is = rw (taken-calm .done)
+
+  done : firstOpening copies p s .answer ≡ Done
+  done = rw opening-is (mapping-calm .done)
+
+  apart : (c : ℕ) → InGap (wholeArea p) c → InMap copies p c → ⊥
+  apart c i m = apart-map (fresh .ready) m (whole-inside p c i)
+
+  asked-once : (k : ℕ) → k < slots copies → askedOf (pointers copies p (firstOpening copies p s .after) k) (firstOpening copies p s .log) ≡ 1
+  asked-once k l =
+      let a = getD (taking .answer .addresses) k 0 in
+      let none = asked-outside a (mapping-calm .places) (apart a (all .inside k l)) in
+      let one = taken-calm .asked k l in
+      rw (opening-is, maps .pointed (mapping-calm .done) k l, asked-append) (omega arith)
+
+  opening-once : Once (firstOpening copies p s .log)
+  opening-once = rw opening-is (once-append (takes .within .places) (mapping-calm .places) apart (taken-calm .once) (mapping-calm .once))
+
+  pub open-calm : OpenCalm copies p s
+  open-calm =
+      record {
+        answers = rw opens-first (ap (ending (Good 0 (pos 0))) done);
+        tried = rw opens-first (opening-laws (fresh .ready) .tried);
+        exact = rw opens-first (exact-opened (fresh .ready) done);
+        asked = rw opens-first asked-once;
+        once = rw opens-first opening-once;
+      }

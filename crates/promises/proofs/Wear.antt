@@ -1,0 +1,148 @@
+-- Steps where every slot's cell has a good write for each of them: they all answer, and the writes of each cell are counted.
+--   step-says                 what such a step answers
+--   StepsCalm, steps-calm     what n of them answer, keep and ask of each slot's cell
+--   fresh-lasts               a fresh chip lasts for n steps
+use Prim.Native.Nat.{ℕ, zero, suc, _+_, _*_, _%_, _^_, _≤_, _<_}
+use mathlib.Core.Path.{_≡_, refl, ap, _∙_}
+use mathlib.Core.Bool.{Bool, true, false}
+use native.Mathlib.Nat.{add-zero, zero-add, div-le-self}
+use native.Mathlib.Omega.{arith}
+use lib.Dec.{eqb}
+use lib.IntN.{pos}
+use lib.ListN.{length}
+use borrow.Author.Tests.{eqb-true}
+use Rattle.code.proofs.ChangeLaws.{step-nibble-small}
+use Rattle.cells.specs.Chip.{Chip, lifeAt, pick}
+use Rattle.cells.specs.Log.{askedOf}
+use Rattle.cells.proofs.Logs.{asked-none, asked-append, within-life}
+use Rattle.counter.specs.declared.places.Places.{Places}
+use Rattle.counter.specs.Slots.{slots}
+use Rattle.counter.specs.Map.{mapIn}
+use Rattle.counter.specs.Verdict.{answer, answerOf, outcomeOf}
+use Rattle.counter.specs.Doors.{lastCount, openRun, stepRun, openOf}
+use Rattle.counter.specs.Places.{livesGood}
+use Rattle.promises.specs.Runs.{stepsUpTo, opened, cellOf, counting, writesOf, Fresh, Worn, Lasts}
+use Rattle.counter.proofs.Ready.{pointers, Ready, inside-cell}
+use Rattle.counter.proofs.Exact.{Exact}
+use Rattle.promises.proofs.DoorRuns.{open-laws, step-laws}
+use Rattle.promises.proofs.StepChanges.{changedNibble}
+use Rattle.promises.proofs.ExactSteps.{stepWrites, StepCalm, step-calm}
+use Rattle.promises.proofs.RunSteps.{steps-next, steps-within}
+use Rattle.promises.proofs.WriteCounts.{writes-none, writes-step}
+use Rattle.promises.proofs.BlankOpenings.{OpenCalm, open-calm}
+
+-- one write a copy
+step-length : (n copy : ℕ) (pointer : ℕ → ℕ) (c : ℕ) → length (stepWrites n copy pointer c) ≡ n
+unfolding stepWrites
+step-length zero copy pointer c = refl
+step-length (suc n) copy pointer c = ap suc (step-length n (copy + 1) pointer c)
+
+pub step-says :
+    {copies : ℕ} {p : Places} {c : ℕ} {s : Chip} → StepCalm copies p c s
+    → outcomeOf (stepRun copies p s) .says ≡ answer 0 (c + 1) (pos 0) 0 copies 0
+unfolding answerOf
+step-says calm = rw (calm .answers, calm .tried, calm .log, step-length)
+
+pub record StepsCalm (n copies : ℕ) (p : Places) (c : ℕ) (s : Chip) : Type 0 where
+  pub answers : stepsUpTo n copies p s .answer ≡ counting n copies c
+  pub map : mapIn copies p (stepsUpTo n copies p s .after .cells) ≡ mapIn copies p (s .cells)
+  pub tally :
+      (j : ℕ) → j < slots copies
+      → askedOf (pointers copies p s j) (stepsUpTo n copies p s .log) + writesOf c (j % 8) ≡ writesOf (c + n) (j % 8)
+
+-- every slot's cell has so many good writes
+abbrev pub LiveFor : ℕ → ℕ → Places → Chip → Type 0
+LiveFor n copies p s = (j : ℕ) → j < slots copies → n ≤ lifeAt s (pointers copies p s j)
+
+-- one or none
+one-most : (t : Bool) → pick t 1 0 ≤ 1
+one-most true = omega arith
+one-most false = omega arith
+
+module _ {copies : ℕ} {p : Places} where
+  none-calm : (c : ℕ) (s : Chip) → StepsCalm 0 copies p c s
+  unfolding stepsUpTo counting
+  none-calm c s = record { answers = refl; map = refl; tally = λ j l. rw (asked-none, zero-add, add-zero) }
+
+  module _ (n : ℕ) {c : ℕ} {s : Chip} (calm : StepCalm copies p c s) (small : c + 1 < 2 ^ 32) where
+    next-live : LiveFor (suc n) copies p s → LiveFor n copies p (stepRun copies p s .after)
+    next-live live j l =
+        let most = one-most (eqb (j % 8) (changedNibble c)) in
+        let h = live j l in
+        let e = within-life (step-laws copies p s .within) (pointers copies p s j) in
+        rw (calm .map) (omega (arith, calm .tally j l))
+
+    more-calm : StepsCalm n copies p (c + 1) (stepRun copies p s .after) → StepsCalm (suc n) copies p c s
+    unfolding counting
+    more-calm rest =
+        let on = steps-next n copies p s (calm .answers) in
+        record {
+          answers = rw (on, rest .answers, step-says calm);
+          map = rw on (rest .map ∙ calm .map);
+          tally = λ j l.
+              let later = rw (calm .map) at (rest .tally j l) in
+              let sum : c + suc n ≡ c + 1 + n = omega arith in
+              rw (on, sum, asked-append) (omega (arith, calm .tally j l, writes-step c small (j % 8)));
+        }
+
+pub steps-calm :
+    (n : ℕ) {copies : ℕ} {p : Places} {c : ℕ} {s : Chip} → 1 ≤ copies → c + n ≤ lastCount → Exact copies p c s
+    → LiveFor n copies p s → StepsCalm n copies p c s
+steps-calm zero {copies} {p} {c} {s} one fits exact live = none-calm c s
+steps-calm (suc n) {copies} {p} {c} {s} one fits exact live =
+    let small = step-nibble-small c (omega arith) in
+    let calm = step-calm one (omega arith) exact (λ copy l. let h = live (8 * copy + changedNibble c) (omega arith) in omega arith) in
+    more-calm n calm (omega arith) (steps-calm n one (omega arith) (calm .exact) (next-live n calm (omega arith) live))
+
+-- ## A fresh chip
+
+-- a cell is written at most once a step
+writes-most : (n k : ℕ) → writesOf n k ≤ n
+unfolding writesOf
+writes-most n k = let h = div-le-self n (16 ^ k) in omega arith
+
+module _ {n copies : ℕ} {p : Places} {s : Chip} (fresh : Fresh n copies p s) where
+  fresh-ready : Ready copies p s
+  fresh-ready = record { paired = eqb-true _ _ (unfold livesGood in fresh .lives); long = fresh .long; good = fresh .places }
+
+  opening : OpenCalm copies p s
+  opening = open-calm (record { ready = fresh-ready; blank = fresh .blank; alive = λ a l. let h = fresh .lasting a l in omega arith })
+
+  opens : openOf copies p s .says ≡ answer 0 0 (pos 0) 0 (length (openRun copies p s .log)) 0
+  unfolding openOf answerOf
+  opens = rw (opening .answers, opening .tried)
+
+  -- the opening takes one good write from each slot's cell, and leaves n
+  abbrev slotCell : ℕ → ℕ
+  slotCell j = pointers copies p (opened copies p s) j
+
+  slot-lasting : (j : ℕ) → j < slots copies → n + 1 ≤ lifeAt s (slotCell j)
+  slot-lasting j l = fresh .lasting _ (inside-cell fresh-ready (opening .exact .sound .inside j l))
+
+  opened-life : (j : ℕ) → j < slots copies → lifeAt (opened copies p s) (slotCell j) + 1 ≡ lifeAt s (slotCell j)
+  opened-life j l =
+      let left = within-life (open-laws copies p s .within) (slotCell j) in
+      let one = opening .asked j l in
+      let had = slot-lasting j l in
+      omega arith
+
+  opened-live : LiveFor n copies p (opened copies p s)
+  opened-live j l = let had = slot-lasting j l in omega (arith, opened-life j l)
+
+  module _ (one : 1 ≤ copies) (few : n ≤ lastCount) where
+    steps : StepsCalm n copies p 0 (opened copies p s)
+    steps = steps-calm n one (omega arith) (opening .exact) opened-live
+
+    worn : (copy k : ℕ) → copy < copies → k < 8 → Worn n copies p s copy k
+    worn copy k l m =
+        let nibble : (8 * copy + k) % 8 ≡ k = omega arith in
+        let tally = rw (nibble, zero-add n) at (steps .tally (8 * copy + k) (omega arith)) in
+        let none = writes-none k in
+        let most = writes-most n k in
+        let left = within-life (steps-within n copies p (opened copies p s)) (cellOf copies p (opened copies p s) copy k) in
+        let had = opened-life (8 * copy + k) (omega arith) in
+        let lasting = opened-live (8 * copy + k) (omega arith) in
+        record { first = opening .asked (8 * copy + k) (omega arith); written = omega arith; life = omega arith }
+
+    pub fresh-lasts : Lasts n copies p s
+    fresh-lasts = record { opens = opens; answers = steps .answers; map = steps .map; worn = worn }
