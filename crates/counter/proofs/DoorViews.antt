@@ -7,11 +7,10 @@
 --   open-unpaired, open-unfit, open-unmarked, open-marked  the work of open
 --   step-unpaired, step-refused, step-last, step-on  the work of step, by what the chip reads as
 --   good-settled              a good verdict finds the chip fitted, and its map sound
-use Prim.Native.Nat.{ℕ, _+_}
-use mathlib.Core.Path.{_≡_, refl, sym, ap, _∙_}
+use Prim.Native.Nat.{ℕ}
+use mathlib.Core.Path.{_≡_, sym, ap, _∙_}
 use mathlib.Core.Bool.{true, false}
-use lib.IntN.{ℤ, pos}
-use lib.Dec.{eqb}
+use lib.IntN.{ℤ}
 use lib.ListN.{length}
 use borrow.Author.Tests.{eq-eqb, ne-eqb}
 use Rattle.cells.specs.Chip.{Chip}

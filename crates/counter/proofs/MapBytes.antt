@@ -7,7 +7,7 @@
 --   mark-same                 maps that agree on the first two bytes are marked alike
 --   mark-put                  the mark's two bytes are a mark
 use Prim.Native.Nat.{ℕ, _+_, _/_, _%_, _≤_, _<_, _-_}
-use mathlib.Core.Path.{_≡_, sym, _∙_, ap}
+use mathlib.Core.Path.{_≡_, sym, _∙_}
 use mathlib.Core.Bool.{true}
 use mathlib.Core.List.{List}
 use native.Mathlib.Nat.{add-zero}

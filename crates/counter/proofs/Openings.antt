@@ -15,7 +15,6 @@ use native.Mathlib.Nat.{add-zero, zero-add}
 use native.Mathlib.Omega.{arith}
 use lib.ListN.{length, getD}
 use Rattle.code.specs.Codes.{codeOf}
-use Rattle.code.specs.Gray.{grayOf}
 use Rattle.code.specs.Nibbles.{nibbleOf}
 use Rattle.cells.specs.declared.row.Found.the-variants.{Nowhere}
 use Rattle.cells.specs.Chip.{Chip, cellAt}

@@ -2,16 +2,14 @@
 --   part-good, part-refused   its numbers
 --   Parted, parted            what a good one says of the copy's number and of where its part ends
 --   part-inside               the part lies in the image
-use Prim.Native.Nat.{ℕ, _+_, _-_, _*_, _≤_}
-use mathlib.Core.Path.{_≡_, refl, sym, ap, _∙_}
-use mathlib.Core.Bool.{Bool, true, false}
+use Prim.Native.Nat.{ℕ, _+_, _-_, _≤_}
+use mathlib.Core.Path.{_≡_, refl}
 use mathlib.Core.List.{List}
 use native.Mathlib.Omega.{arith}
 use lib.IntN.{ℤ}
 use lib.Dec.{leb}
 use lib.ListN.{length}
 use borrow.Author.Tests.{leb-true}
-use Rattle.counter.specs.declared.doors.Part.{Part}
 use Rattle.counter.specs.declared.places.Places.{Places}
 use Rattle.counter.specs.declared.verdict.Refusal.{Refusal}
 use Rattle.counter.specs.declared.verdict.Refusal.the-variants.{BadLength, BadPlaces, NoMark, UnsoundMap, BadCopy}
@@ -21,7 +19,7 @@ use Rattle.counter.specs.Slots.{two, _and_}
 use Rattle.counter.specs.Places.{lengthGood, placesGood}
 use Rattle.counter.specs.Map.{mapIn, marked, pointerOf, sound, partAt}
 use Rattle.counter.specs.Verdict.{refusalOf}
-use Rattle.counter.specs.Doors.{part, partVerdict, partOn, mapPartOf}
+use Rattle.counter.specs.Doors.{part, partVerdict, mapPartOf}
 use Rattle.counter.proofs.RangeTests.{and-true}
 use Rattle.counter.proofs.Settings.{good-placed}
 use Rattle.counter.proofs.GoodVerdicts.{unless-good}

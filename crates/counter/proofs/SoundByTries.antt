@@ -17,7 +17,7 @@ use Rattle.counter.specs.Map.{sound}
 use Rattle.counter.specs.Spares.{gapTo, mayTry}
 use Rattle.counter.proofs.RangeTests.{every-all, all-every, never}
 use Rattle.counter.proofs.SoundPointers.{Sound, test-sound, sound-test, below-apart}
-use Rattle.counter.proofs.Gaps.{Between, between-gap}
+use Rattle.counter.proofs.Gaps.{between-gap}
 use Rattle.counter.proofs.MayTry.{Tried, tried-facts, facts-tried}
 
 unlike : _≡_ {A = Kind} High Low → ⊥

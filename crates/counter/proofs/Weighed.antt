@@ -2,13 +2,12 @@
 --   nibble-two                a nibble of one copy takes the other's where it is lost
 --   weigh-same                bytes that agree on all slots come to the same
 --   weigh-entries             what the bytes come to, by their entries
-use Prim.Native.Nat.{ℕ, zero, suc, _+_, _-_, _*_, _≤_, _<_}
-use mathlib.Core.Path.{_≡_, refl, sym, ap, ap₂, _∙_}
+use Prim.Native.Nat.{ℕ, zero, suc, _+_, _-_, _*_, _<_}
+use mathlib.Core.Path.{_≡_, refl, sym, ap, _∙_}
 use mathlib.Core.Bool.{Bool, true, false}
 use mathlib.Core.List.{List}
 use native.Mathlib.Nat.{zero-add}
 use native.Mathlib.Omega.{arith}
-use lib.Dec.{eqb}
 use Rattle.code.specs.declared.reading.Reading.{Reading}
 use Rattle.code.specs.Readings.{readingOf, twofold, isLost, nibbleRead}
 use Rattle.code.specs.Entries.{readingAt, twofoldAt as twofoldEntry, entryOf}
@@ -16,13 +15,9 @@ use Rattle.code.specs.Gray.{countOf}
 use Rattle.code.specs.Nibbles.{wordOf}
 use Rattle.code.proofs.ReadingLaws.{entry-reading, entry-twofold, lost-zero}
 use Rattle.cells.specs.Chip.{pick}
-use Rattle.cells.specs.declared.row.Found.{Found}
-use Rattle.cells.specs.declared.row.Found.the-variants.{At, Nowhere}
 use Rattle.counter.specs.declared.reading.Fault.the-variants.{Twofold, LostInAll}
-use Rattle.counter.specs.declared.verdict.Verdict.{Verdict}
-use Rattle.counter.specs.declared.verdict.Verdict.the-variants.{Refused}
 use Rattle.counter.specs.declared.verdict.Refusal.the-variants.{TwoCodes, LostNibble}
-use Rattle.counter.specs.Slots.{two, every, some, lowest, tabulate, _and_, _or_}
+use Rattle.counter.specs.Slots.{two, every, some, lowest, _or_}
 use Rattle.counter.specs.Reading.{lent, nibbleIn, countIn, twofoldAt, lostAt, amiss, decide, onFound, weigh}
 use Rattle.counter.proofs.RangeTests.{every-same, some-same, lowest-same, tabulate-same}
 

@@ -3,9 +3,9 @@
 use Prim.Native.Nat.{ℕ, _+_, _-_}
 use mathlib.Core.Path.{_≡_}
 use mathlib.Core.Bool.{Bool, not}
-use mathlib.Core.List.{List, []}
+use mathlib.Core.List.{List}
 use lib.IntN.{ℤ, pos}
-use lib.ListN.{length, take, drop}
+use lib.ListN.{take, drop}
 use lib.Dec.{leb, eqb}
 use Rattle.cells.specs.Chip.{Chip, pick}
 use Rattle.cells.specs.Run.{Run, still}

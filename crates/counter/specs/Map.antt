@@ -9,7 +9,7 @@ use Rattle.cells.specs.Chip.{pick}
 use Rattle.counter.specs.declared.map.Kind.{Kind}
 use Rattle.counter.specs.declared.map.Kind.the-variants.{High, Low}
 use Rattle.counter.specs.declared.places.Places.{Places}
-use Rattle.counter.specs.Slots.{slots, kindOf, every, _and_, _or_}
+use Rattle.counter.specs.Slots.{slots, kindOf, every, _and_}
 use Rattle.counter.specs.Places.{mapCells}
 
 -- the part of an image's cells that is the map

@@ -7,7 +7,6 @@ use mathlib.Core.Bool.{true, false, not}
 use native.Mathlib.Omega.{arith}
 use lib.IntN.{pos}
 use lib.ListN.{length, getD}
-use borrow.Author.Tests.{eq-eqb}
 use Rattle.cells.specs.Chip.{Chip, cellAt, lifeAt}
 use Rattle.cells.specs.Run.{Run, _then_, _giving_}
 use Rattle.cells.specs.Log.{askedOf}
@@ -22,7 +21,6 @@ use Rattle.counter.specs.Spares.{wholeArea}
 use Rattle.counter.specs.Verdict.{ending, _endingIn_, _andThen_}
 use Rattle.counter.specs.Opening.{Taken, takeFrom, putPointers, putMark, untried, firstOpening}
 use Rattle.counter.specs.Doors.{unopened, openRun}
-use Rattle.counter.specs.Places.{livesGood}
 use Rattle.counter.proofs.CodeMore.{code-zero}
 use Rattle.promises.proofs.CellsMore.{asked-outside, Once, once-append}
 use Rattle.counter.proofs.RangeTests.{true-and}

@@ -9,8 +9,7 @@ use mathlib.Core.Bool.{Bool, true, false}
 use native.Mathlib.Decide.{ℕ-discrete}
 use native.Mathlib.Omega.{arith}
 use lib.IntN.{ℤ, pos}
-use lib.ListN.{length}
-use borrow.Author.Tests.{eqb-true, ne-eqb}
+use borrow.Author.Tests.{ne-eqb}
 use Rattle.cells.specs.Chip.{Chip, pick}
 use Rattle.cells.specs.Run.{Run, still}
 use Rattle.cells.specs.Log.{Within}

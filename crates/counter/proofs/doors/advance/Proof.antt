@@ -1,11 +1,11 @@
 -- `doors::advance` meets its contract: what is stored first leaves the chip fit for the second store.
-use Prim.Native.Nat.{_+_, _≤_}
+use Prim.Native.Nat.{_≤_}
 use mathlib.Core.Path.{_≡_, sym, ap, _∙_}
 use mathlib.Core.Bool.{true}
 use native.Mathlib.Omega.{arith}
 use Rattle.cells.specs.Chip.{chip}
 use Rattle.cells.specs.Run.{plus}
-use Rattle.counter.specs.declared.verdict.Work.the-variants.{Done, Stopped}
+use Rattle.counter.specs.declared.verdict.Work.the-variants.{Done}
 use Rattle.counter.specs.Slots.{two}
 use Rattle.counter.specs.Places.{fitted}
 use Rattle.counter.specs.Map.{mapIn, pointerOf, sound}

@@ -1,10 +1,8 @@
 -- `doors::open` keeps its promise.
-use mathlib.Core.Path.{_≡_, sym, ap, _∙_}
+use mathlib.Core.Path.{sym, ap, _∙_}
 use Rattle.cells.specs.Chip.{chip}
 use Rattle.counter.specs.declared.verdict.Answer.{Answer}
 use Rattle.counter.specs.Slots.{two}
-use Rattle.counter.specs.Places.{places}
-use Rattle.counter.specs.Standing.{standingOf}
 use Rattle.counter.specs.Verdict.{outcome, outcomeOf}
 use Rattle.counter.specs.Doors.{openOf}
 use Rattle.counter.proofs.DoorViews.{outcome-refused, chip-fitted, open-unpaired, open-unfit, open-unmarked, open-marked}

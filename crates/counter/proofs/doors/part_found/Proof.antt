@@ -1,7 +1,7 @@
 -- `doors::part_found` meets its contract.
-use mathlib.Core.Path.{_≡_, sym, ap, _∙_}
+use mathlib.Core.Path.{sym, _∙_}
 use Rattle.counter.specs.Slots.{two}
-use Rattle.counter.proofs.Standings.{stands-marked, guard-unfit, guard-unmarked}
+use Rattle.counter.proofs.Standings.{guard-unfit, guard-unmarked}
 use Rattle.counter.specs.Doors.{partVerdict}
 use borrow.Author.Needs.{needs}
 use Rattle.counter.proofs.doors.part_found.Statement.{statement}

@@ -5,7 +5,7 @@ use mir.Syntax.{w64}
 use mir.Facts.{toZ-ofZ}
 use Rattle.cells.specs.Chip.{chip}
 use Rattle.counter.specs.declared.verdict.Answer.{Answer}
-use Rattle.counter.specs.declared.verdict.Verdict.the-variants.{Good, Refused}
+use Rattle.counter.specs.declared.verdict.Verdict.the-variants.{Good}
 use Rattle.counter.specs.Slots.{two}
 use Rattle.counter.specs.Verdict.{outcome, outcomeOf, _endingIn_}
 use Rattle.counter.specs.Store.{store}

@@ -1,5 +1,5 @@
 -- `doors::step` keeps its promise.
-use Prim.Native.Nat.{ℕ, _+_, _≤_, _<_}
+use Prim.Native.Nat.{ℕ, _+_, _<_}
 use mathlib.Core.Path.{_≡_, sym, ap, _∙_}
 use native.Mathlib.Omega.{arith}
 use lib.IntN.{ℤ}
@@ -7,11 +7,10 @@ use mir.Syntax.{w64}
 use mir.Facts.{toZ-ofZ}
 use Rattle.cells.specs.Chip.{chip}
 use Rattle.counter.specs.declared.verdict.Answer.{Answer}
-use Rattle.counter.specs.declared.verdict.Verdict.{Verdict}
-use Rattle.counter.specs.declared.verdict.Verdict.the-variants.{Good, Refused}
+use Rattle.counter.specs.declared.verdict.Verdict.the-variants.{Good}
 use Rattle.counter.specs.Slots.{two}
 use Rattle.counter.specs.Places.{places}
-use Rattle.counter.specs.Verdict.{outcome, outcomeOf, _endingIn_, _andThen_}
+use Rattle.counter.specs.Verdict.{outcome, outcomeOf, _andThen_}
 use Rattle.counter.specs.Store.{store}
 use Rattle.counter.specs.Doors.{chipVerdict, stepping, stepOf}
 use Rattle.counter.proofs.GoodVerdicts.{verdict-good}

@@ -1,11 +1,10 @@
 -- `map::pointer_of` meets its contract.
-use Prim.Native.Nat.{_+_, _*_, _<_, _≤_}
-use mathlib.Core.Path.{_≡_, sym, ap, ap₂, _∙_}
+use Prim.Native.Nat.{_+_}
+use mathlib.Core.Path.{_≡_, sym}
 use borrow.Author.Needs.{needs}
 use native.Mathlib.Omega.{arith}
-use lib.ListN.{getD}
-use Rattle.counter.specs.Map.{byteAt, offsetOf, pointerOf}
-use Rattle.counter.proofs.Offsets.{offset-inside, low-inside, high-inside, pointer-low, pointer-high}
+use Rattle.counter.specs.Map.{byteAt, offsetOf}
+use Rattle.counter.proofs.Offsets.{low-inside, high-inside, pointer-low, pointer-high}
 use Rattle.counter.proofs.map.pointer_of.Statement.{statement}
 use Rattle.counter.proofs.map.pointer_of.Tie as tie
 

@@ -1,11 +1,10 @@
 -- `places::places_good` meets its contract: each test that fails takes a clause of the settings away.
 use mathlib.Core.Path.{sym}
 use mathlib.Core.Logic.{⊎-elim, inl, inr}
-use Prim.Native.Nat.{_+_, _≤_, _<_}
 use borrow.Author.Needs.{needs}
 use native.Mathlib.Omega.{arith}
 use Rattle.counter.specs.Slots.{two}
-use Rattle.counter.proofs.Settings.{Placed, placed-good, not-placed}
+use Rattle.counter.proofs.Settings.{placed-good, not-placed}
 use Rattle.counter.proofs.places.places_good.Statement.{statement}
 use Rattle.counter.proofs.places.places_good.Tie as tie
 

@@ -1,7 +1,7 @@
 -- `reading::decided` meets its contract: the difference fits 64 bits, so the bits that are tested are the lag's.
-use mathlib.Core.Path.{_≡_, refl, sym, ap, _∙_}
+use mathlib.Core.Path.{sym, ap, _∙_}
 use borrow.Author.Needs.{needs}
-use lib.IntN.{ℤ, pos}
+use lib.IntN.{ℤ}
 use mir.Syntax.{w64}
 use mir.Val.{toZ, ofZ}
 use Rattle.counter.specs.declared.verdict.Verdict.the-variants.{Good, Refused}

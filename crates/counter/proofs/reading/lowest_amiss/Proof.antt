@@ -1,6 +1,6 @@
 -- `reading::lowest_amiss` meets its contract: the search goes on from the nibble that has been reached.
 use Prim.Native.Nat.{_+_, _-_, _≤_}
-use mathlib.Core.Path.{_≡_, refl, sym, ap, _∙_}
+use mathlib.Core.Path.{_≡_, refl, sym, _∙_}
 use borrow.Author.Needs.{needs}
 use native.Mathlib.Omega.{arith}
 use Rattle.counter.specs.Slots.{lowest}

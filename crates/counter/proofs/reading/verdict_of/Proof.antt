@@ -1,5 +1,5 @@
 -- `reading::verdict_of` meets its contract.
-use mathlib.Core.Path.{_≡_, sym, ap, _∙_}
+use mathlib.Core.Path.{sym, _∙_}
 use Rattle.counter.specs.Slots.{two}
 use Rattle.counter.proofs.Standings.{stands-marked, guard-unfit, guard-unmarked, guard-marked}
 use Rattle.counter.specs.Reading.{verdictOf}

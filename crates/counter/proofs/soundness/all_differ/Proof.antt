@@ -1,5 +1,5 @@
 -- `soundness::all_differ` meets its contract: pointers whose low bytes differ do, and else each is looked at.
-use Prim.Native.Nat.{_-_, _%_, _≤_, _<_}
+use Prim.Native.Nat.{_-_, _%_, _≤_}
 use mathlib.Core.Path.{_≡_, refl, sym, ap, _∙_}
 use mathlib.Core.Bool.{true, not}
 use borrow.Author.Needs.{needs}

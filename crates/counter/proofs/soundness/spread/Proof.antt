@@ -1,6 +1,6 @@
 -- `soundness::spread` meets its contract: the low bytes of the slots passed are marked, and differ.
 use Prim.Native.Nat.{ℕ, _-_, _%_, _≤_, _<_}
-use mathlib.Core.Path.{_≡_, refl, sym, ap, _∙_}
+use mathlib.Core.Path.{_≡_, refl}
 use borrow.Author.Needs.{needs}
 use native.Mathlib.Omega.{arith}
 use borrow.Author.Count.{below-more}
