@@ -6,5 +6,4 @@ pub mod NibbleLaws
 pub mod ReadingLaws
 pub mod GrayLaws
 pub mod ChangeLaws
-pub mod Bench
 pub mod Filled

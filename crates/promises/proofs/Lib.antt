@@ -1,3 +1,4 @@
+pub mod Bench
 pub mod CellsMore
 pub mod NoSecond
 pub mod DoorRuns

@@ -1,0 +1,76 @@
+-- The cases of the bench that are proved (document 01, "Measured on the bench", those with a star), as one table about the
+-- definitions.
+--   Row     a case: what the definitions answer, and what the paper says
+--   bench   the cases, 1 to 13
+--   holds   in each case the definitions answer what the paper says
+use Prim.Native.Nat.{ℕ}
+use mathlib.Core.Path.{_≡_, refl}
+use mathlib.Core.List.{List, [], _∷_, _++_, map}
+use lib.Count.{ones}
+use lib.IntN.{pos, negsuc}
+use lib.ListN.{replicate}
+use Rattle.code.specs.declared.reading.Reading.{Reading}
+use Rattle.code.specs.declared.reading.Reading.the-variants.{Clean, Mended, Lost}
+use Rattle.code.specs.Codes.{codes, distance}
+use Rattle.code.specs.Readings.{nearFrom, near, readingOf, twofold, isLost, nibbleRead}
+use Rattle.code.specs.Gray.{bits, grayOf, halvesOf, countOf}
+use Rattle.code.specs.Nibbles.{wordOf}
+use Rattle.counter.specs.declared.verdict.Answer.{Answer}
+use Rattle.counter.specs.Slots.{two, kindOf, every, some, lowest, tabulate}
+use Rattle.counter.specs.Places.{places, lengthGood, placesGood}
+use Rattle.counter.specs.Map.{marked, offsetIn, offsetOf, pointerAt, pointerOf, reachable, inOrder, sound}
+use Rattle.counter.specs.Verdict.{answer, refusalOf, answerOf}
+use Rattle.counter.specs.Reading.{lent, nibbleIn, countIn, close, decide, weigh, examine, verdictOf}
+use Rattle.counter.specs.Doors.{readOf}
+
+-- what a case asks for: what a byte reads as, the Gray word of a count, or what an image answers
+pub data Question : Type 0 where
+  reads : Reading → Question
+  word : ℕ → Question
+  says : Answer → Question
+
+-- a case by its number: what the definitions answer, and what the paper says
+pub record Row : Type 0 where
+  pub number : ℕ
+  pub found : Question
+  pub paper : Question
+
+abbrev row : ℕ → Question → Question → Row
+row number found paper = record { number = number; found = found; paper = paper }
+
+-- an image of setting A, opened, with a byte for nibble 0 of each copy and 80 in all other data cells
+abbrev pub chipA : ℕ → ℕ → List ℕ
+chipA first second =
+    (0xFF ∷ 0xA5 ∷ 0x5A ∷ [])
+    ++ (0x80 ∷ 0 ∷ 0x7F ∷ 0 ∷ 0x7E ∷ 0 ∷ 0x19 ∷ 0x1A ∷ 0x1B ∷ 0x1C ∷ 0x1D ∷ [])
+    ++ (0x7D ∷ 0 ∷ 0x7C ∷ 0 ∷ 0x7B ∷ 0 ∷ 0x1E ∷ 0x1F ∷ 0x20 ∷ 0x21 ∷ 0x22 ∷ [])
+    ++ replicate 10 0x80
+    ++ replicate 88 0xFF
+    ++ (0x80 ∷ 0x80 ∷ second ∷ 0x80 ∷ 0x80 ∷ first ∷ [])
+
+abbrev look : ℕ → ℕ → Question
+look first second = says (readOf two (places 1 25 128) (chipA first second))
+
+-- the cases
+abbrev pub bench : List Row
+bench =
+    row 1 (reads (readingOf 0x80)) (reads (Clean 0)) ∷
+    row 2 (reads (readingOf 0x81)) (reads (Mended 0)) ∷
+    row 3 (reads (readingOf 0x06)) (reads (Mended 1)) ∷
+    row 4 (reads (readingOf 0x0F)) (reads (Mended 1)) ∷
+    row 5 (reads (readingOf 0x01)) (reads Lost) ∷
+    row 6 (reads (readingOf 0xFF)) (reads (Mended 15)) ∷
+    row 7 (word (grayOf 16)) (word 0x18) ∷
+    row 7 (word (grayOf 15)) (word 0x08) ∷
+    row 8 (word (grayOf 4294967295)) (word 0x80000000) ∷
+    row 9 (look 0xCB 0xB3) (says (answer 0 5 (pos 1) 0 0 0)) ∷
+    row 10 (look 0xB3 0xCB) (says (answer 6 0 (negsuc 0) 0 0 0)) ∷
+    row 11 (look 0xCB 0x19) (says (answer 6 0 (pos 2) 0 0 0)) ∷
+    row 12 (look 0x01 0xB3) (says (answer 0 4 (pos 0) 0 0 0)) ∷
+    row 13 (look 0x01 0x01) (says (answer 5 0 (pos 0) 0 0 0)) ∷
+    []
+
+-- in each case the definitions answer what the paper says
+pub holds : map (λ r. r .found) bench ≡ map (λ r. r .paper) bench
+unfolding codes distance nearFrom near readingOf twofold isLost nibbleRead bits grayOf halvesOf countOf wordOf ones kindOf every some lowest tabulate lengthGood placesGood marked offsetIn offsetOf pointerAt pointerOf reachable inOrder sound refusalOf answerOf lent nibbleIn countIn close decide weigh examine verdictOf readOf
+holds = refl
