@@ -1,0 +1,142 @@
+/* Prints the table of instructions per call, the archive beside fast.c, on the same chips in one run. Use: bench STEPS, where
+   STEPS is 4096 for the figures of record. Answers, cells and lives are compared on the way. */
+
+#include <inttypes.h>
+#include <stdio.h>
+#include <stdlib.h>
+#include <string.h>
+
+#include "count.h"
+#include "fast.h"
+
+enum { largest = 4096 };
+
+typedef struct {
+    uint8_t image[largest];
+    uint32_t lives[largest];
+} chip;
+
+static chip theirs, ours;
+static const places setting_a = {129, 1, 25, 128};
+
+typedef struct {
+    uint64_t archive, c;
+} figures;
+
+static void same(lyre_answer one, lyre_answer other)
+{
+    if (one.code == 0 && one.code == other.code && one.count == other.count && one.lag == other.lag &&
+        one.place == other.place && one.writes == other.writes && one.tried == other.tried &&
+        memcmp(&theirs, &ours, sizeof ours) == 0)
+        return;
+    printf("the archive and fast.c differ, or a call was refused: codes %" PRIu32 " and %" PRIu32 "\n", one.code, other.code);
+    exit(1);
+}
+
+static figures open_both(places at)
+{
+    lyre_answer one, other;
+    figures figures;
+    figures.archive = count_writing(lyre_open, theirs.image, theirs.lives, at, &one);
+    figures.c = count_writing(fast_open, ours.image, ours.lives, at, &other);
+    same(one, other);
+    return figures;
+}
+
+static figures step_both(places at)
+{
+    lyre_answer one, other;
+    figures figures;
+    figures.archive = count_writing(lyre_step, theirs.image, theirs.lives, at, &one);
+    figures.c = count_writing(fast_step, ours.image, ours.lives, at, &other);
+    same(one, other);
+    return figures;
+}
+
+static figures read_both(places at)
+{
+    lyre_answer one, other;
+    figures figures;
+    figures.archive = count_reading(lyre_read, theirs.image, at, &one);
+    figures.c = count_reading(fast_read, ours.image, at, &other);
+    same(one, other);
+    return figures;
+}
+
+static void lay_blank(void)
+{
+    memset(theirs.image, 0xFF, sizeof theirs.image);
+    for (size_t i = 0; i < largest; i++)
+        theirs.lives[i] = 1000000;
+    ours = theirs;
+}
+
+static void add(figures *sum, figures one)
+{
+    sum->archive += one.archive;
+    sum->c += one.c;
+}
+
+static void row(const char *name, figures sum, uint64_t calls)
+{
+    printf("%-52s %10.1f %10.1f %8.2f\n", name, (double)sum.archive / (double)calls, (double)sum.c / (double)calls,
+           (double)sum.archive / (double)sum.c);
+    fflush(stdout);
+}
+
+static void setting_a_rows(uint64_t steps)
+{
+    figures stepped = {0}, read = {0};
+    lay_blank();
+    figures opened = open_both(setting_a);
+    figures again = open_both(setting_a);
+    for (uint64_t done = 0; done < steps; done++) {
+        add(&stepped, step_both(setting_a));
+        add(&read, read_both(setting_a));
+    }
+    char name[60];
+    snprintf(name, sizeof name, "step, setting A, mean of steps 1 to %" PRIu64, steps);
+    row(name, stepped, steps);
+    snprintf(name, sizeof name, "read, setting A, mean after steps 1 to %" PRIu64, steps);
+    row(name, read, steps);
+    row("open, setting A, blank image", opened, 1);
+    row("open, setting A, opened before", again, 1);
+    lay_blank();
+    open_both(setting_a);
+    theirs.lives[128] = ours.lives[128] = 0;
+    row("step, setting A, one cell moved", step_both(setting_a), 1);
+}
+
+/* The mean of the first sixteen steps, which touch the cells of two nibbles. */
+static void growth_row(size_t n, size_t e)
+{
+    places at = {n, 1, 25, e};
+    figures stepped = {0};
+    lay_blank();
+    open_both(at);
+    for (int done = 0; done < 16; done++)
+        add(&stepped, step_both(at));
+    char name[60];
+    snprintf(name, sizeof name, "step, N %zu, area of %zu cells", n, e - 25 + 1);
+    row(name, stepped, 16);
+}
+
+int main(int count_of_words, char **words)
+{
+    static const size_t sizes[] = {41, 64, 129, 256, 512, 1024, 2048, 4096};
+    uint64_t steps = count_of_words == 2 ? strtoull(words[1], NULL, 10) : 0;
+    if (steps == 0) {
+        fprintf(stderr, "use: bench STEPS\n");
+        return 2;
+    }
+    count_begin();
+    printf("%-52s %10s %10s %8s\n", "instructions per call", "archive", "C -O2", "ratio");
+    setting_a_rows(steps);
+    printf("growth with N, the area as large as it can be\n");
+    for (size_t i = 0; i < sizeof sizes / sizeof *sizes; i++)
+        growth_row(sizes[i], sizes[i] - 1);
+    printf("growth with the area, N 4096\n");
+    for (size_t i = 0; i < sizeof sizes / sizeof *sizes; i++)
+        growth_row(4096, sizes[i] - 1);
+    return 0;
+}

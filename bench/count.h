@@ -1,0 +1,23 @@
+/* Counts the instructions of a call by the processor's own trap flag: while it is set, every instruction ends in a signal. That
+   needs no tool and no privilege, and works in the emulator too, so one method serves both kinds of machine.
+   The instructions around the call are found once with a door that only returns, and taken off. */
+
+#ifndef COUNT_H
+#define COUNT_H
+
+#include "../include/lyre.h"
+
+typedef lyre_answer writing_door(uint8_t *image, size_t n, uint32_t *lives, size_t lives_n, size_t m, size_t s, size_t e);
+typedef lyre_answer reading_door(const uint8_t *image, size_t n, size_t m, size_t s, size_t e);
+
+typedef struct {
+    size_t n, m, s, e;
+} places;
+
+void count_begin(void);
+
+/* Call the door once and give its instructions, from its first to its return, both included. */
+uint64_t count_writing(writing_door *door, uint8_t *image, uint32_t *lives, places at, lyre_answer *answer);
+uint64_t count_reading(reading_door *door, const uint8_t *image, places at, lyre_answer *answer);
+
+#endif

@@ -1,0 +1,72 @@
+/* The doors for C of the turn counter: a 32-bit count kept in an EEPROM image by the scheme of AN1449, as document 01 sets it
+   down. The archive is liblyre.a.
+
+   What a caller owes:
+   - the archive holds x86-64 code, called by the System V convention: the stack is aligned to 16 bytes at the call, as a C
+     compiler does without being asked;
+   - image points to n bytes and lives to lives_n numbers, neither of them null, even where a length is 0; lives is aligned as
+     uint32_t asks;
+   - the two buffers do not overlap, and nobody else uses them during a call.
+   Every length, place and content is allowed besides: what is not good is refused with a number. No function of the C library
+   is needed, no memory is asked for, and nothing is kept between calls. */
+
+#ifndef LYRE_H
+#define LYRE_H
+
+#include <stddef.h>
+#include <stdint.h>
+
+#ifdef __cplusplus
+extern "C" {
+#endif
+
+/* The number in `code`. Where a refusal says no more, place, count, lag, writes and tried are 0, and no cell or life changed.
+    0  good
+    1  n is outside 41..4096, or lives_n is not n
+    2  the places m, s and e are not good ones
+    3  no mark at m: the image was never opened (not from lyre_open, which then opens it for the first time)
+    4  the mark is there, but the map is not sound
+    5  a nibble is lost in both copies; place is the lowest such nibble, 0 to 7
+    6  the copies disagree; lag says by how much, and is neither 0 nor 1
+    7  a step at the highest count, 4294967295
+    8  no spare of the kind holds; place is the nibble, plus 8 in copy 2; cells and lives stay as written so far, and writes and
+       tried say what was done
+    9  a cell of the map does not take its byte; place is its address; the rest as for 8
+   10  a byte one bit from two codes; place is the nibble (never met: no two codes are that near)
+   16  a copy other than 1 or 2 was asked of lyre_map_part */
+
+typedef struct {
+    uint32_t code;   /* 0, or the number of the refusal */
+    uint32_t count;  /* the turns counted; after a step the new count; 0 on a refusal */
+    int64_t lag;     /* copy 1 less copy 2 as they were read: 0, or 1 after a step that was stopped; any other in refusal 6 */
+    uint64_t place;  /* where a refusal points, else 0 */
+    uint64_t writes; /* cell writes asked for in this call, those that a worn cell did not take included */
+    uint64_t tried;  /* spare cells tried in this call; 0 in a first opening */
+} lyre_answer;
+
+typedef struct {
+    uint32_t code;   /* 0, or refusal 1, 2, 3, 4 or 16 */
+    uint64_t start;  /* offset in the image of the copy's cells in the map; 0 on a refusal */
+    uint64_t length; /* 11; 0 on a refusal */
+} lyre_part;
+
+/* In all four: n bytes of image, the map's 24 cells from m, the area from s to e, e included. lives[i] is the number of good
+   writes left in cell i, and lives_n has to be n. */
+
+/* Opens the image: settles a count that is there, or makes map and count 0 where there is no mark. */
+lyre_answer lyre_open(uint8_t *image, size_t n, uint32_t *lives, size_t lives_n, size_t m, size_t s, size_t e);
+
+/* Reads the count and writes nothing. */
+lyre_answer lyre_read(const uint8_t *image, size_t n, size_t m, size_t s, size_t e);
+
+/* Settles the count that is there and stores one more. */
+lyre_answer lyre_step(uint8_t *image, size_t n, uint32_t *lives, size_t lives_n, size_t m, size_t s, size_t e);
+
+/* Says where in the image the pointers of copy 1 or 2 stand. The count need not be readable for it. */
+lyre_part lyre_map_part(const uint8_t *image, size_t n, size_t m, size_t s, size_t e, uint32_t copy);
+
+#ifdef __cplusplus
+}
+#endif
+
+#endif

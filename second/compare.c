@@ -1,0 +1,243 @@
+/* Compares the second maker with the archive, call by call: the answer, every cell and every life, and the guards around what
+   is lent. Use: compare SEED COUNT [FIRST]. With FIRST the worked cases are left out and COUNT random cases from number FIRST on
+   are run, which repeats a reported one. */
+
+#include "compare.h"
+
+#include <inttypes.h>
+#include <stdio.h>
+#include <stdlib.h>
+#include <string.h>
+
+#include "../include/lyre.h"
+
+enum { guard = 32, shifts = 16, codes_counted = 17 };
+
+typedef struct {
+    uint8_t room[guard + shifts + largest + guard];
+    uint32_t lives_room[guard + largest + guard];
+    uint8_t *image;
+    uint32_t *lives;
+} side;
+
+static side ours, theirs;
+static places lent;
+static uint8_t image_before[largest];
+static uint32_t lives_before[largest];
+
+static const char *const door_names[doors] = {"open", "read", "step", "map part"};
+static uint64_t met[doors][codes_counted], calls;
+static uint64_t seed, case_number;
+static bool in_worked = true;
+
+static const uint8_t guard_byte = 0xC3;
+static const uint32_t guard_life = 0xC3C3C3C3;
+
+static void lend_side(side *side, size_t shift, const uint8_t *image, const uint32_t *lives)
+{
+    /* Images stand at any alignment, for bytes ask for none. */
+    side->image = side->room + guard + shift;
+    side->lives = side->lives_room + guard;
+    memset(side->image - guard, guard_byte, guard);
+    memcpy(side->image, image, lent.n);
+    memset(side->image + lent.n, guard_byte, guard);
+    memset(side->lives - guard, guard_byte, guard * sizeof *lives);
+    memcpy(side->lives, lives, lent.lives_n * sizeof *lives);
+    memset(side->lives + lent.lives_n, guard_byte, guard * sizeof *lives);
+}
+
+void lend(places at, const uint8_t *image, const uint32_t *lives)
+{
+    lent = at;
+    lend_side(&ours, 0, image, lives);
+    lend_side(&theirs, (at.n + at.e) % shifts, image, lives);
+}
+
+static bool guards_whole(const side *side)
+{
+    for (size_t i = 0; i < guard; i++)
+        if (side->image[-1 - (ptrdiff_t)i] != guard_byte || side->image[lent.n + i] != guard_byte ||
+            side->lives[-1 - (ptrdiff_t)i] != guard_life || side->lives[lent.lives_n + i] != guard_life)
+            return false;
+    return true;
+}
+
+uint8_t cell(size_t address)
+{
+    return ours.image[address];
+}
+
+uint32_t life(size_t address)
+{
+    return ours.lives[address];
+}
+
+void set_cell(size_t address, uint8_t byte)
+{
+    ours.image[address] = theirs.image[address] = byte;
+}
+
+void set_life(size_t address, uint32_t life)
+{
+    ours.lives[address] = theirs.lives[address] = life;
+}
+
+void begin(uint64_t number)
+{
+    case_number = number;
+}
+
+static void where(void)
+{
+    if (in_worked)
+        printf("worked case %" PRIu64 "\n", case_number);
+    else
+        printf("random case: seed %" PRIu64 " number %" PRIu64 " (again: compare %" PRIu64 " 1 %" PRIu64 ")\n", seed,
+               case_number, seed, case_number);
+}
+
+void expect(bool holds, const char *what)
+{
+    if (holds)
+        return;
+    printf("NOT AS THE DOCUMENT SAYS: %s\n", what);
+    where();
+    exit(1);
+}
+
+static void show(const char *who, second_answer answer)
+{
+    printf("%-7s code %" PRIu32 " count %" PRIu32 " lag %" PRId64 " place %" PRIu64 " writes %" PRIu64 " tried %" PRIu64 "\n",
+           who, answer.code, answer.count, answer.lag, answer.place, answer.writes, answer.tried);
+}
+
+/* Everything needed to see the call again without this program. */
+static void differ(const char *what, door door)
+{
+    printf("DIFFERENCE: %s at the door %s, call %" PRIu64 "\n", what, door_names[door], calls);
+    where();
+    printf("n %zu lives_n %zu m %zu s %zu e %zu\n", lent.n, lent.lives_n, lent.m, lent.s, lent.e);
+    printf("cells before, life in brackets where a cell has one:\n");
+    for (size_t i = 0; i < lent.n; i++) {
+        printf("%s%02X", i % 16 == 0 ? "\n" : " ", image_before[i]);
+        if (i < lent.lives_n)
+            printf("(%" PRIu32 ")", lives_before[i]);
+    }
+    printf("\n");
+    for (size_t i = 0; i < lent.n; i++)
+        if (ours.image[i] != theirs.image[i])
+            printf("cell %zu: before %02X, second %02X, archive %02X\n", i, image_before[i], ours.image[i], theirs.image[i]);
+    for (size_t i = 0; i < lent.lives_n; i++)
+        if (ours.lives[i] != theirs.lives[i])
+            printf("life %zu: before %" PRIu32 ", second %" PRIu32 ", archive %" PRIu32 "\n", i, lives_before[i], ours.lives[i],
+                   theirs.lives[i]);
+    exit(1);
+}
+
+static void remember(void)
+{
+    calls += 1;
+    memcpy(image_before, ours.image, lent.n);
+    memcpy(lives_before, ours.lives, lent.lives_n * sizeof *lives_before);
+}
+
+static void compare_chips(door door, uint32_t code)
+{
+    met[door][code < codes_counted ? code : codes_counted - 1] += 1;
+    if (!guards_whole(&ours) || !guards_whole(&theirs))
+        differ("a write outside what was lent", door);
+    if (memcmp(ours.image, theirs.image, lent.n) != 0)
+        differ("cells", door);
+    if (memcmp(ours.lives, theirs.lives, lent.lives_n * sizeof *ours.lives) != 0)
+        differ("lives", door);
+    bool untouched = door == door_read || door == door_map_part || (code != 0 && code != 8 && code != 9);
+    if (untouched && (memcmp(image_before, theirs.image, lent.n) != 0 ||
+                      memcmp(lives_before, theirs.lives, lent.lives_n * sizeof *lives_before) != 0))
+        differ("cells or lives touched", door);
+}
+
+second_answer call(door door)
+{
+    second_answer mine = {0};
+    lyre_answer answer = {0};
+    remember();
+    switch (door) {
+    case door_open:
+        mine = second_open(ours.image, lent.n, ours.lives, lent.lives_n, lent.m, lent.s, lent.e);
+        answer = lyre_open(theirs.image, lent.n, theirs.lives, lent.lives_n, lent.m, lent.s, lent.e);
+        break;
+    case door_step:
+        mine = second_step(ours.image, lent.n, ours.lives, lent.lives_n, lent.m, lent.s, lent.e);
+        answer = lyre_step(theirs.image, lent.n, theirs.lives, lent.lives_n, lent.m, lent.s, lent.e);
+        break;
+    default:
+        mine = second_read(ours.image, lent.n, lent.m, lent.s, lent.e);
+        answer = lyre_read(theirs.image, lent.n, lent.m, lent.s, lent.e);
+    }
+    second_answer other = {.code = answer.code, .count = answer.count, .lag = answer.lag, .place = answer.place,
+                           .writes = answer.writes, .tried = answer.tried};
+    if (mine.code != other.code || mine.count != other.count || mine.lag != other.lag || mine.place != other.place ||
+        mine.writes != other.writes || mine.tried != other.tried) {
+        show("second", mine);
+        show("archive", other);
+        differ("answer", door);
+    }
+    compare_chips(door, mine.code);
+    return mine;
+}
+
+second_part call_map_part(uint32_t copy)
+{
+    remember();
+    second_part mine = second_map_part(ours.image, lent.n, lent.m, lent.s, lent.e, copy);
+    lyre_part other = lyre_map_part(theirs.image, lent.n, lent.m, lent.s, lent.e, copy);
+    if (mine.code != other.code || mine.start != other.start || mine.length != other.length) {
+        printf("copy %" PRIu32 "\n", copy);
+        printf("second  code %" PRIu32 " start %" PRIu64 " length %" PRIu64 "\n", mine.code, mine.start, mine.length);
+        printf("archive code %" PRIu32 " start %" PRIu64 " length %" PRIu64 "\n", other.code, other.start, other.length);
+        differ("part", door_map_part);
+    }
+    compare_chips(door_map_part, mine.code);
+    return mine;
+}
+
+static void print_met(void)
+{
+    printf("%-9s", "code");
+    for (int each = 0; each < doors; each++)
+        printf("%12s", door_names[each]);
+    printf("\n");
+    for (int code = 0; code < codes_counted; code++) {
+        uint64_t all = 0;
+        for (int each = 0; each < doors; each++)
+            all += met[each][code];
+        if (all == 0)
+            continue;
+        printf("%-9d", code);
+        for (int each = 0; each < doors; each++)
+            printf("%12" PRIu64, met[each][code]);
+        printf("\n");
+    }
+}
+
+int main(int count_of_words, char **words)
+{
+    if (count_of_words != 3 && count_of_words != 4) {
+        fprintf(stderr, "use: compare SEED COUNT [FIRST]\n");
+        return 2;
+    }
+    seed = strtoull(words[1], NULL, 10);
+    uint64_t count = strtoull(words[2], NULL, 10);
+    uint64_t first = count_of_words == 4 ? strtoull(words[3], NULL, 10) : 0;
+    if (count_of_words == 3)
+        worked_cases();
+    in_worked = false;
+    for (uint64_t done = 0; done < count; done++) {
+        case_number = first + done;
+        random_case(seed, case_number);
+    }
+    print_met();
+    printf("seed %" PRIu64 ": %" PRIu64 " random cases%s, %" PRIu64 " calls, no difference\n", seed, count,
+           count_of_words == 3 ? " and the worked ones" : "", calls);
+    return 0;
+}

@@ -1,0 +1,29 @@
+/* The second maker's turn counter. Fields and numbers mean what document 01, "What comes back", says. */
+
+#ifndef SECOND_H
+#define SECOND_H
+
+#include <stddef.h>
+#include <stdint.h>
+
+typedef struct {
+    uint32_t code;
+    uint32_t count;
+    int64_t lag;
+    uint64_t place;
+    uint64_t writes;
+    uint64_t tried;
+} second_answer;
+
+typedef struct {
+    uint32_t code;
+    uint64_t start;
+    uint64_t length;
+} second_part;
+
+second_answer second_open(uint8_t *image, size_t n, uint32_t *lives, size_t lives_n, size_t m, size_t s, size_t e);
+second_answer second_read(const uint8_t *image, size_t n, size_t m, size_t s, size_t e);
+second_answer second_step(uint8_t *image, size_t n, uint32_t *lives, size_t lives_n, size_t m, size_t s, size_t e);
+second_part second_map_part(const uint8_t *image, size_t n, size_t m, size_t s, size_t e, uint32_t copy);
+
+#endif

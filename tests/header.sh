@@ -1,0 +1,45 @@
+#!/bin/sh
+# tests/header.sh: holds include/lyre.h to crates/lyre/src/lib.rt. What the source exports, written as C, has to be all that the
+# header declares, in the same order; and a C compiler has to lay the structs out as #[repr(C)] does.
+set -eu
+. "$(dirname "$0")/../second/machine.sh"
+
+# One declaration a line, with single spaces.
+lay() {
+    tr -s ' \n' ' ' | sed -E 's/ ?([(){;]) ?/\1/g; s/,?\)/)/g' | grep -oE "$1" || true
+}
+
+# A slice is a pointer and a length; the image's length is called n.
+sed 's:^ *//.*::' "$root/crates/lyre/src/lib.rt" |
+    lay '#\[repr\(C\)\] pub struct [^}]*\}|#\[no_mangle\] pub extern "C" fn [^)]*\)-> [A-Za-z]+' |
+    sed -E '
+        s/#\[repr\(C\)\] pub struct (\w+)\{(.*)\}/typedef struct{\2} lyre_\L\1;/
+        s/#\[no_mangle\] pub extern "C" fn (\w+)\((.*)\)-> (\w+)/lyre_\L\3\E \1(\2);/
+        s/(\w+): &mut \[u(8|32)\]/uint\2_t *\1, size_t \1_n/g
+        s/(\w+): &\[u(8|32)\]/const uint\2_t *\1, size_t \1_n/g
+        s/image_n/n/
+        s/(pub )?(\w+): u(32|64)/uint\3_t \2/g
+        s/(pub )?(\w+): i64/int64_t \2/g
+        s/(\w+): usize/size_t \1/g
+        /^typedef/s/, ?/;/g' >"$work/source"
+sed -E '/^#/d; s:/\*[^*]*\*/::g; /\/\*/,/\*\//d' "$root/include/lyre.h" |
+    lay 'typedef struct\{[^}]*\} \w+;|[^;{}]*\([^)]*\);' >"$work/header"
+[ "$(wc -l <"$work/source")" -eq 6 ] || { echo 'header: not six exports in the source'; cat "$work/source"; exit 1; }
+diff "$work/source" "$work/header" || { echo 'header: lyre.h (>) is not what the source exports (<)'; exit 1; }
+
+$compiler -fsyntax-only -x c - <<C
+#include "$root/include/lyre.h"
+#define AT(type, field, offset) _Static_assert(offsetof(type, field) == offset, #type "." #field)
+AT(lyre_answer, code, 0);
+AT(lyre_answer, count, 4);
+AT(lyre_answer, lag, 8);
+AT(lyre_answer, place, 16);
+AT(lyre_answer, writes, 24);
+AT(lyre_answer, tried, 32);
+_Static_assert(sizeof(lyre_answer) == 40, "lyre_answer");
+AT(lyre_part, code, 0);
+AT(lyre_part, start, 8);
+AT(lyre_part, length, 16);
+_Static_assert(sizeof(lyre_part) == 24, "lyre_part");
+C
+echo 'header: lyre.h declares what the archive exports'
