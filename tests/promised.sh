@@ -1,0 +1,20 @@
+#!/bin/sh
+# tests/promised.sh: every public function of a library crate has an `ensures`, and no door of the counter or for C has a `requires`.
+set -eu
+cd "$(dirname "$0")/.."
+
+# heads FILE..: a line for each public function: its file and name, and the words requires and ensures where its head has them
+heads() {
+    awk '
+        match($0, /^ *pub (extern "C" )?fn [a-z_0-9]+/) { name = substr($0, RSTART, RLENGTH); sub(/.* /, "", name); says = ""; open = 1 }
+        open && /requires/ { says = says " requires" }
+        open && /ensures/ { says = says " ensures" }
+        open && ($0 ~ /^ *\{$/ || ($0 ~ /\{$/ && $0 !~ /(requires|ensures)/)) { print FILENAME ": " name says; open = 0 }
+    ' "$@"
+}
+
+for crate in crates/*/; do
+    [ ! -f "$crate/src/lib.rt" ] || heads "$crate"src/*.rt
+done | grep -v ensures && { echo 'promised: these promise nothing'; exit 1; }
+heads crates/counter/src/doors.rt crates/lyre/src/lib.rt | grep requires && { echo 'promised: these ask something'; exit 1; }
+echo 'promised: every public function promises, and no door asks'
