@@ -18,7 +18,9 @@ pub mod StoreCosts
 pub mod Takes
 pub mod Openings
 pub mod OpeningViews
+pub mod NextStores
 pub mod ReadBack
+pub mod PlainBytes
 pub mod Exact
 pub mod GoodVerdicts
 pub mod Lags

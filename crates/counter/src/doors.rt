@@ -12,7 +12,7 @@ ghost use Rattle.counter.specs.Standing.{standingOf};
 ghost use Rattle.counter.specs.Places.{places, fitted};
 ghost use Rattle.counter.specs.Map.{mapIn, pointerOf, sound};
 ghost use Rattle.counter.specs.Verdict.{ending, answerOf, outcome, outcomeOf, _andThen_};
-ghost use Rattle.counter.specs.Store.{store};
+ghost use Rattle.counter.specs.Store.{store, Holds};
 ghost use Rattle.counter.specs.Doors.{beginning, reopening, partVerdict, mapPartOf, Opens, Steps, Reads, HandsBack};
 use super::map::Map;
 use super::map::pointers_in;
@@ -23,7 +23,8 @@ use super::soundness::is_sound;
 use super::standing::Standing;
 use super::standing::standing_of;
 use super::store::Stored;
-use super::store::store_count;
+use super::store::settle;
+use super::store::store_next;
 use super::verdict::Answer;
 use super::verdict::Refusal;
 use super::verdict::Verdict;
@@ -50,7 +51,9 @@ pub fn read(image: &[u8], m: usize, s: usize, e: usize) -> Answer
         start: s,
         end: e,
     };
-    answer_of(verdict_of(image, p), 0, 0)
+    let found = verdict_of(image, p);
+    let verdict = found.verdict;
+    answer_of(verdict, 0, 0)
 }
 
 // The answer of a call that ends so when its storing is done.
@@ -78,10 +81,12 @@ fn reopen(image: &mut [u8], lives: &mut [u32], p: Places) -> Answer
     requires { ⌜ length (now lives) ≡ length (now image) ⌝ }
     ensures { λ r. ⌜ outcome r (chip (now (image .exit)) (now (lives .exit))) ≡ outcomeOf (reopening two p (chip (now (image .entry)) (now (lives .entry)))) ⌝ }
 {
-    let verdict = verdict_of(image, p);
+    let found = verdict_of(image, p);
+    let exact = found.exact;
+    let verdict = found.verdict;
     match verdict {
         Verdict::Good(count, lag) => {
-            let stored = store_count(image, lives, p, count);
+            let stored = settle(image, lives, p, count, exact);
             finished(Verdict::Good(count, lag), stored)
         }
         Verdict::Refused(why) => refusal_of(why, 0, 0),
@@ -109,11 +114,11 @@ pub fn open(image: &mut [u8], lives: &mut [u32], m: usize, s: usize, e: usize) -
 }
 
 // Two stores, one after the other: the count that was read, and the next.
-fn advance(image: &mut [u8], lives: &mut [u32], p: Places, count: u32) -> Stored
-    requires { ⌜ (fitted two p (chip (now image) (now lives)) ≡ true) × (sound two p (pointerOf (mapIn two p (now image))) ≡ true) × (count < 4294967295) ⌝ }
+fn advance(image: &mut [u8], lives: &mut [u32], p: Places, count: u32, exact: bool) -> Stored
+    requires { ⌜ (fitted two p (chip (now image) (now lives)) ≡ true) × (sound two p (pointerOf (mapIn two p (now image))) ≡ true) × (count < 4294967295) × (exact ≡ true → Holds two p count (now image)) ⌝ }
     ensures { λ r. ⌜ seen (r .work) (r .writes) (r .tried) (chip (now (image .exit)) (now (lives .exit))) ≡ view (store two p count (chip (now (image .entry)) (now (lives .entry))) andThen store two p (count + 1)) ⌝ }
 {
-    let settled = store_count(image, lives, p, count);
+    let settled = settle(image, lives, p, count, exact);
     let work = settled.work;
     if let Work::Stopped(why) = work {
         return Stored {
@@ -122,7 +127,7 @@ fn advance(image: &mut [u8], lives: &mut [u32], p: Places, count: u32) -> Stored
             tried: settled.tried,
         };
     }
-    let stepped = store_count(image, lives, p, count + 1);
+    let stepped = store_next(image, lives, p, count);
     let work = stepped.work;
     Stored {
         work,
@@ -143,13 +148,15 @@ pub fn step(image: &mut [u8], lives: &mut [u32], m: usize, s: usize, e: usize) -
     if lives.len() != image.len() {
         return refusal_of(Refusal::BadLength, 0, 0);
     }
-    let verdict = verdict_of(image, p);
+    let found = verdict_of(image, p);
+    let exact = found.exact;
+    let verdict = found.verdict;
     match verdict {
         Verdict::Good(count, lag) => {
             if count == LAST_COUNT {
                 return refusal_of(Refusal::LastCount, 0, 0);
             }
-            let stored = advance(image, lives, p, count);
+            let stored = advance(image, lives, p, count, exact);
             finished(Verdict::Good(count + 1, lag), stored)
         }
         Verdict::Refused(why) => refusal_of(why, 0, 0),

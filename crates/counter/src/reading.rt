@@ -3,7 +3,9 @@
 ghost use mathlib.Core.Path.{_≡_};
 ghost use mathlib.Core.Bool.{true};
 ghost use Prim.Native.Nat.{ℕ, _+_, _<_};
+ghost use lib.IntN.{ℤ};
 ghost use lib.ListN.{length, getD};
+ghost use Rattle.code.specs.Codes.{codeOf};
 ghost use Rattle.code.specs.Readings.{isLost, nibbleRead};
 ghost use Rattle.code.specs.Entries.{readingAt};
 ghost use Rattle.cells.specs.Chip.{pick};
@@ -11,6 +13,8 @@ ghost use Rattle.counter.specs.Slots.{two, lowest};
 ghost use Rattle.counter.specs.Map.{listed};
 ghost use Rattle.counter.specs.Reading.{amiss, countIn, decide, weigh, examine, verdictOf};
 ghost use Rattle.counter.specs.Places.{lengthGood, placesGood};
+ghost use Rattle.counter.specs.Store.{slotCode, Holds};
+ghost use Rattle.counter.specs.declared.verdict.Verdict.the-variants.{Good};
 use super::map::Map;
 use super::map::pointers_in;
 use super::places::Places;
@@ -27,6 +31,8 @@ use code::reading::nibble_read;
 use code::reading::reading_at;
 use code::reading::twofold_at;
 use code::table::entries_of;
+use code::table::laid;
+use code::table::wide;
 
 // The bytes at the pointers.
 pub fn data_of(image: &[u8], pointers: &[usize; 16]) -> [u8; 16]
@@ -146,27 +152,99 @@ pub fn weighed(data: &[u8; 16]) -> Verdict
     decided(count_in(&entries, 0), count_in(&entries, 1))
 }
 
+// The nibbles of bytes that are codes, the same in both copies; and whether they are.
+pub struct Plain {
+    pub clean: bool,
+    pub nibbles: [u8; 8],
+}
+
+// The nibbles of the bytes, if they are codes and the same in both copies.
+fn plain_nibbles(data: &[u8; 16]) -> Plain
+    ensures { λ r. ⌜ (length (r .nibbles) ≡ 8) × (r .clean ≡ true → (n : ℕ) → n < 8 → (listed (now («data» .entry)) n ≡ codeOf (getD (r .nibbles) n 0)) × (getD (r .nibbles) n 0 < 16) × (listed (now («data» .entry)) (8 + n) ≡ listed (now («data» .entry)) n)) ⌝ }
+{
+    let table = laid();
+    let mut nibbles = [0u8; 8];
+    let mut n = 0;
+    while n < 8 {
+        let byte = data[n];
+        if data[8 + n] != byte {
+            return Plain {
+                clean: false,
+                nibbles,
+            };
+        }
+        let entry = table[wide(byte)];
+        if 15 < entry {
+            return Plain {
+                clean: false,
+                nibbles,
+            };
+        }
+        nibbles[n] = entry;
+        n += 1;
+    }
+    Plain {
+        clean: true,
+        nibbles,
+    }
+}
+
+// What was read, and whether all slots are known to hold the count's codes.
+pub struct Finding {
+    pub verdict: Verdict,
+    pub exact: bool,
+}
+
+// What the bytes of the slots come to: where both copies are the same codes, there is nothing to weigh.
+pub fn found_in(data: &[u8; 16]) -> Finding
+    ensures { λ r. ⌜ (r .verdict ≡ weigh two (listed (now («data» .entry)))) × (r .exact ≡ true → (c : ℕ) (lag : ℤ) → r .verdict ≡ Good c lag → (k : ℕ) → k < 16 → listed (now («data» .entry)) k ≡ slotCode c k) ⌝ }
+{
+    let plain = plain_nibbles(data);
+    if plain.clean {
+        let nibbles = plain.nibbles;
+        let count = count_of(word_of(nibbles));
+        return Finding {
+            verdict: Verdict::Good(count, 0),
+            exact: true,
+        };
+    }
+    let verdict = weighed(data);
+    Finding {
+        verdict,
+        exact: false,
+    }
+}
+
 // What a marked image with good settings reads as.
-pub fn examined(image: &[u8], p: Places) -> Verdict
+pub fn examined(image: &[u8], p: Places) -> Finding
     requires { ⌜ (lengthGood two (length (now image)) ≡ true) × (placesGood two (length (now image)) p ≡ true) ⌝ }
-    ensures { λ r. ⌜ r ≡ examine two p (now (image .entry)) ⌝ }
+    ensures { λ r. ⌜ (r .verdict ≡ examine two p (now (image .entry))) × (r .exact ≡ true → (c : ℕ) (lag : ℤ) → r .verdict ≡ Good c lag → Holds two p c (now (image .entry))) ⌝ }
 {
     let pointers = pointers_in(image, p);
     if !is_sound(&pointers, p) {
-        return Verdict::Refused(Refusal::UnsoundMap);
+        return Finding {
+            verdict: Verdict::Refused(Refusal::UnsoundMap),
+            exact: false,
+        };
     }
     let bytes = data_of(image, &pointers);
-    weighed(&bytes)
+    found_in(&bytes)
 }
 
 // What an image reads as, by the tests in the order of the table.
-pub fn verdict_of(image: &[u8], p: Places) -> Verdict
-    ensures { λ r. ⌜ r ≡ verdictOf two p (now (image .entry)) ⌝ }
+pub fn verdict_of(image: &[u8], p: Places) -> Finding
+    ensures { λ r. ⌜ (r .verdict ≡ verdictOf two p (now (image .entry))) × (r .exact ≡ true → (c : ℕ) (lag : ℤ) → r .verdict ≡ Good c lag → Holds two p c (now (image .entry))) ⌝ }
 {
     let standing = standing_of(image, p);
     match standing {
-        Standing::Unfit(why) => Verdict::Refused(why),
-        Standing::Unmarked => Verdict::Refused(Refusal::NoMark),
+        Standing::Unfit(why) => Finding {
+            verdict: Verdict::Refused(why),
+            exact: false,
+        },
+        Standing::Unmarked => Finding {
+            verdict: Verdict::Refused(Refusal::NoMark),
+            exact: false,
+        },
         Standing::Marked => examined(image, p),
     }
 }

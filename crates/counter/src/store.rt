@@ -2,14 +2,14 @@
 // lives and good settings, and a sound map; the doors see to that.
 ghost use mathlib.Core.Path.{_≡_};
 ghost use mathlib.Core.Bool.{true};
-ghost use Prim.Native.Nat.{_≤_, _<_};
+ghost use Prim.Native.Nat.{_+_, _≤_, _<_};
 ghost use lib.ListN.{length};
 ghost use Rattle.cells.specs.Chip.{chip};
 ghost use Rattle.cells.specs.Run.{seen, view};
 ghost use Rattle.counter.specs.Slots.{two, kindOf};
 ghost use Rattle.counter.specs.Places.{fitted};
 ghost use Rattle.counter.specs.Map.{mapIn, pointerOf, sound, reachable};
-ghost use Rattle.counter.specs.Store.{mapped, putPointer, trySpares, moveSlot, storeSlot, store};
+ghost use Rattle.counter.specs.Store.{mapped, putPointer, trySpares, moveSlot, storeSlot, store, Holds};
 use super::map::Map;
 use super::map::offset_of;
 use super::map::pointer_of;
@@ -27,6 +27,7 @@ use cells::row::Way;
 use cells::row::put_row;
 use cells::row::walk;
 use code::codes::code_of;
+use code::gray::changed_bit;
 use code::gray::gray_of;
 use code::nibbles::nibble_of;
 
@@ -169,5 +170,46 @@ pub fn store_count(image: &mut [u8], lives: &mut [u32], p: Places, count: u32) -
         work: Work::Done,
         writes,
         tried,
+    }
+}
+
+// A count stored, unless all slots are known to hold its codes.
+pub fn settle(image: &mut [u8], lives: &mut [u32], p: Places, count: u32, exact: bool) -> Stored
+    requires { ⌜ (fitted two p (chip (now image) (now lives)) ≡ true) × (sound two p (pointerOf (mapIn two p (now image))) ≡ true) × (exact ≡ true → Holds two p count (now image)) ⌝ }
+    ensures { λ r. ⌜ seen (r .work) (r .writes) (r .tried) (chip (now (image .exit)) (now (lives .exit))) ≡ view (store two p count (chip (now (image .entry)) (now (lives .entry)))) ⌝ }
+{
+    if exact {
+        return Stored {
+            work: Work::Done,
+            writes: 0,
+            tried: 0,
+        };
+    }
+    store_count(image, lives, p, count)
+}
+
+// The next count stored where all slots hold a count's codes: one nibble changes, in each copy.
+pub fn store_next(image: &mut [u8], lives: &mut [u32], p: Places, count: u32) -> Stored
+    requires { ⌜ (fitted two p (chip (now image) (now lives)) ≡ true) × (sound two p (pointerOf (mapIn two p (now image))) ≡ true) × (count < 4294967295) × (Holds two p count (now image)) ⌝ }
+    ensures { λ r. ⌜ seen (r .work) (r .writes) (r .tried) (chip (now (image .exit)) (now (lives .exit))) ≡ view (store two p (count + 1) (chip (now (image .entry)) (now (lives .entry)))) ⌝ }
+{
+    let next = count + 1;
+    let nibble = (changed_bit(next) / 4) as usize;
+    let byte = code_of(nibble_of(gray_of(next), nibble));
+    let first = store_slot(image, lives, p, nibble, byte);
+    let work = first.work;
+    if let Work::Stopped(why) = work {
+        return Stored {
+            work: Work::Stopped(why),
+            writes: first.writes,
+            tried: first.tried,
+        };
+    }
+    let second = store_slot(image, lives, p, 8 + nibble, byte);
+    let work = second.work;
+    Stored {
+        work,
+        writes: first.writes + second.writes,
+        tried: first.tried + second.tried,
     }
 }

@@ -12,20 +12,21 @@ use Rattle.counter.specs.Map.{mapIn, pointerOf, sound}
 use Rattle.counter.specs.Store.{store}
 use Rattle.counter.proofs.StoreViews.{store-settled}
 use Rattle.counter.proofs.StoreCosts.{store-few}
+use Rattle.counter.proofs.NextStores.{store-holds}
 use Rattle.counter.proofs.OpeningViews.{said-done, said-stopped}
 use borrow.Author.Needs.{needs}
 use Rattle.counter.proofs.doors.advance.Statement.{statement}
 use Rattle.counter.proofs.doors.advance.Tie as tie
 
 -- the first store leaves the chip fit for the second
-settled : (c : tie.After-store-count) → c .store-count .result .work ≡ Done
+settled : (c : tie.After-settle) → c .settle .result .work ≡ Done
     → let p = c .before .before .before .before .before .args .p in
-    let cells = c .store-count .last .0 in
-    (fitted two p (chip cells (c .store-count .last .1 .0)) ≡ true) × (sound two p (pointerOf (mapIn two p cells)) ≡ true)
-settled c h = let s = c .before .before .before .before .before in store-settled two _ _ (s .pre .0) (s .pre .1) _ (c .store-count .ensures) h
+    let cells = c .settle .last .0 in
+    (fitted two p (chip cells (c .settle .last .1 .0)) ≡ true) × (sound two p (pointerOf (mapIn two p cells)) ≡ true)
+settled c h = let s = c .before .before .before .before .before in store-settled two _ _ (s .pre .0) (s .pre .1) _ (c .settle .ensures) h
 
-store-count-requires : tie.Need-store-count-requires
-store-count-requires c κs = search needs
+settle-requires : tie.Need-settle-requires
+settle-requires c κs = search needs
 
 enum-known-work : tie.Need-enum-known-work
 enum-known-work c = search needs
@@ -39,27 +40,29 @@ same-length-2 c = search needs
 returns : tie.Need-returns
 returns c =
     let first = c .before .before .before .before .before .before .before in
-    sym (said-stopped (store two _ _ _) (store two _ _) (first .store-count .ensures) (c .before .work .given .1))
+    sym (said-stopped (store two _ _ _) (store two _ _) (first .settle .ensures) (c .before .work .given .1))
 
 enum-told : tie.Need-enum-told
 enum-told c = search needs
 
-add-store-count : tie.Need-add-store-count
-add-store-count c = search needs
-
-store-count-requires-2 : tie.Need-store-count-requires-2
-store-count-requires-2 c κs = settled (c .before .before .before .before .before .before .before .before) (c .before .before .enum-told .given .1)
+store-next-requires : tie.Need-store-next-requires
+store-next-requires c κs =
+    let first = c .before .before .before .before .before .before .before .before in
+    let s = first .before .before .before .before .before in
+    let done = c .before .before .enum-told .given .1 in
+    let fit = settled first done in
+    (fit .0, fit .1, s .pre .2, store-holds _ _ _ (s .pre .0) (s .pre .1) (first .settle .ensures) done)
 
 -- each of the two stores asks few writes and tries few spares
-few : (c : tie.After-store-count2) → let first = c .before .before .before .before .before .before .before .before .before .store-count .result in
-    let second = c .store-count2 .result in
+few : (c : tie.After-store-next) → let first = c .before .before .before .before .before .before .before .before .before .settle .result in
+    let second = c .store-next .result in
     (first .writes ≤ 65584) × (first .tried ≤ 65536) × (second .writes ≤ 65584) × (second .tried ≤ 65536)
 few c =
     let first = c .before .before .before .before .before .before .before .before .before in
     let s = first .before .before .before .before .before in
-    let one = store-few two _ _ _ (s .pre .0) (s .pre .1) (first .store-count .ensures) in
+    let one = store-few two _ _ _ (s .pre .0) (s .pre .1) (first .settle .ensures) in
     let fit = settled first (c .before .before .before .enum-told .given .1) in
-    let other = store-few two _ _ _ (fit .0) (fit .1) (c .store-count2 .ensures) in
+    let other = store-few two _ _ _ (fit .0) (fit .1) (c .store-next .ensures) in
     (one .0, one .1, other .0, other .1)
 
 add-t20 : tie.Need-add-t20
@@ -79,21 +82,20 @@ returns-2 c =
     let second = c .before .before .before .before .before .before .before .before in
     let first = second .before .before .before .before .before .before .before .before .before in
     sym
-    (said-done (store two _ _ _) (store two _ _) (first .store-count .ensures) (second .before .before .before .enum-told .given .1)
-    ∙ ap (plus (first .store-count .result .writes) (first .store-count .result .tried)) (sym (second .store-count2 .ensures)))
+    (said-done (store two _ _ _) (store two _ _) (first .settle .ensures) (second .before .before .before .enum-told .given .1)
+    ∙ ap (plus (first .settle .result .writes) (first .settle .result .tried)) (sym (second .store-next .ensures)))
 
 pub advance-spec : {M : Type 1} → statement M
 advance-spec =
     tie.close
     (tie.spec
-    store-count-requires
+    settle-requires
     enum-known-work
     same-length
     same-length-2
     returns
     enum-told
-    add-store-count
-    store-count-requires-2
+    store-next-requires
     add-t20
     add-t21
     same-length-3

@@ -15,7 +15,7 @@ answer-of-requires c κs = search needs
 
 returns : tie.Need-returns
 unfolding readOf
-returns c = c .answer-of .ensures ∙ ap (λ (v : Verdict). answerOf v 0 0) (c .before .verdict-of .ensures)
+returns c = c .answer-of .ensures ∙ ap (λ (v : Verdict). answerOf v 0 0) (c .before .verdict-of .ensures .0)
 
 pub read-spec : {M : Type 1} → statement M
 read-spec = tie.close (tie.spec verdict-of-requires answer-of-requires returns)

@@ -26,10 +26,13 @@ good : (c : tie.After-known-told) → let s = c .before .before .before .before 
     chipVerdict two (s .args .p) (chip (s .args .image .now) (s .args .lives .now)) ≡ Good (c .before .verdict .given .0 .0) (c .before .verdict .given .0 .1 .0)
 good c =
     let s = c .before .before .before .before .before .before .before in
-    chip-verdict two _ _ (s .pre) ∙ sym (c .before .before .before .verdict-of .ensures) ∙ c .before .verdict .given .1
+    chip-verdict two _ _ (s .pre) ∙ sym (c .before .before .before .verdict-of .ensures .0) ∙ c .before .verdict .given .1
 
-store-count-requires : tie.Need-store-count-requires
-store-count-requires c κs = good-settled two _ _ (good (c .before .before))
+settle-requires : tie.Need-settle-requires
+settle-requires c κs =
+    let told = c .before .before in
+    let fit = good-settled two _ _ (good told) in
+    (fit .0, fit .1, λ e. told .before .before .before .verdict-of .ensures .1 e _ _ (told .before .verdict .given .1))
 
 finished-requires : tie.Need-finished-requires
 finished-requires c κs = search needs
@@ -48,7 +51,7 @@ same-length-2 c = search needs
 
 returns : tie.Need-returns
 returns c =
-    let stored = c .before .before .before .before .before .store-count in
+    let stored = c .before .before .before .before .before .settle in
     let told = c .before .before .before .before .before .before .before .before in
     let s = told .before .before .before .before .before .before .before .args in
     let count = told .before .verdict .given .0 .0 in
@@ -65,7 +68,7 @@ same-length-3 c = search needs
 returns-2 : tie.Need-returns-2
 returns-2 c =
     let s = c .before .before .before .before .before .before .before .before in
-    let refused = chip-verdict two _ _ (s .pre) ∙ sym (c .before .before .before .before .verdict-of .ensures) ∙ c .before .before .verdict2 .given .1 in
+    let refused = chip-verdict two _ _ (s .pre) ∙ sym (c .before .before .before .before .verdict-of .ensures .0) ∙ c .before .before .verdict2 .given .1 in
     ap (λ (a : Answer). outcome a (chip (s .args .image .now) (s .args .lives .now))) (c .refusal-of .ensures)
     ∙ outcome-refused (reopening-refused two _ _ _ refused)
 
@@ -75,7 +78,7 @@ reopen-spec =
     (tie.spec
     verdict-of-requires
     enum-known-verdict
-    store-count-requires
+    settle-requires
     finished-requires
     enum-known-verdict-2
     refusal-of-requires

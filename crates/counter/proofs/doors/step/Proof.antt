@@ -34,8 +34,8 @@ verdict-of-requires c κs = search needs
 
 -- what the chip reads as
 reads : (c : tie.After-verdict-of) → let s = c .before .before .before .before .before .args in
-    chipVerdict two (places (s .m) (s .s) (s .e)) (chip (s .image .now) (s .lives .now)) ≡ c .verdict-of .result
-reads c = chip-verdict two _ _ (c .before .before .if1 .left) ∙ sym (c .verdict-of .ensures)
+    chipVerdict two (places (s .m) (s .s) (s .e)) (chip (s .image .now) (s .lives .now)) ≡ c .verdict-of .result .verdict
+reads c = chip-verdict two _ _ (c .before .before .if1 .left) ∙ sym (c .verdict-of .ensures .0)
 
 enum-known-verdict : tie.Need-enum-known-verdict
 enum-known-verdict c = search needs
@@ -68,10 +68,10 @@ advance-requires c κs =
     let told = c .before .before .before in
     let fit = good-settled two _ _ (good told) in
     let small = verdict-good two _ _ (good told) .1 .small in
-    (fit .0, fit .1, below small (c .before .before .if2 .left))
+    (fit .0, fit .1, below small (c .before .before .if2 .left), λ e. told .before .before .before .verdict-of .ensures .1 e _ _ (told .before .verdict .given .1))
 
-add-t25 : tie.Need-add-t25
-add-t25 c = search needs
+add-t27 : tie.Need-add-t27
+add-t27 c = search needs
 
 finished-requires : tie.Need-finished-requires
 finished-requires c κs = search needs
@@ -128,7 +128,7 @@ step-spec =
     same-length
     returns-2
     advance-requires
-    add-t25
+    add-t27
     finished-requires
     enum-known-verdict-2
     refusal-of-requires-3

@@ -1,14 +1,16 @@
 -- `reading::examined` meets its contract: sound pointers lie in the image.
+use Prim.Native.Nat.{ℕ, _<_}
 use mathlib.Core.Path.{_≡_, sym, ap, _∙_}
 use borrow.Author.Tests.{not-true, not-false}
 use native.Mathlib.Omega.{arith}
 use lib.ListN.{getD}
 use Rattle.counter.specs.Slots.{two}
-use Rattle.counter.specs.Map.{mapIn, pointerOf, sound}
+use Rattle.counter.specs.Map.{mapIn, pointerOf, sound, listed}
 use Rattle.counter.specs.Reading.{dataAt, examine}
 use Rattle.counter.proofs.Settings.{good-placed, length-good}
 use Rattle.counter.proofs.SoundPointers.{test-sound, sound-agree}
 use Rattle.counter.proofs.Weighed.{weigh-same}
+use Rattle.counter.proofs.PlainBytes.{no-claim}
 use borrow.Author.Needs.{needs}
 use Rattle.counter.proofs.reading.examined.Statement.{statement}
 use Rattle.counter.proofs.reading.examined.Tie as tie
@@ -30,7 +32,7 @@ tested c = sym (c .is-sound .ensures ∙ sound-agree two _ _ _ (c .before .befor
 
 returns : tie.Need-returns
 unfolding examine
-returns c = rw (tested (c .before) ∙ not-true _ (c .if1 .taken))
+returns c = (rw (tested (c .before) ∙ not-true _ (c .if1 .taken)), λ e. no-claim e)
 
 data-of-requires : tie.Need-data-of-requires
 data-of-requires c κs = λ k l.
@@ -39,19 +41,25 @@ data-of-requires c κs = λ k l.
     let inside = facts .inside k l .to in
     omega arith
 
-weighed-requires : tie.Need-weighed-requires
-weighed-requires c κs = search needs
+found-in-requires : tie.Need-found-in-requires
+found-in-requires c κs = search needs
+
+-- the bytes are those at the pointers
+bytes : (c : tie.After-data-of) → let found = c .before .before .before .before .before in
+    let s = found .before .before .args in
+    (k : ℕ) → k < 16 → listed (c .data-of .result) k ≡ dataAt (s .image .now) (mapIn two (s .p) (s .image .now)) k
+bytes c k l =
+    let found = c .before .before .before .before .before in
+    c .data-of .ensures k l ∙ ap (λ a. getD (found .before .before .args .image .now) a 0) (found .pointers-in .ensures k l)
 
 returns-2 : tie.Need-returns-2
 unfolding examine
 returns-2 c =
     let test = c .before .before .before .before in
-    let found = test .before .before .before in
-    let s = found .before .before .args in
-    rw (tested (test .before) ∙ not-false _ (test .if1 .left))
-    (c .weighed .ensures
-    ∙ weigh-same _ (dataAt (s .image .now) (mapIn two (s .p) (s .image .now)))
-    (λ k l. c .before .before .data-of .ensures k l ∙ ap (λ a. getD (s .image .now) a 0) (found .pointers-in .ensures k l)))
+    let read = c .before .before in (
+      rw (tested (test .before) ∙ not-false _ (test .if1 .left)) (c .found-in .ensures .0 ∙ weigh-same _ _ (bytes read)),
+      λ e d lag q k l. sym (bytes read k l) ∙ c .found-in .ensures .1 e d lag q k l,
+    )
 
 pub examined-spec : {M : Type 1} → statement M
 examined-spec =
@@ -61,5 +69,5 @@ examined-spec =
     is-sound-requires
     returns
     data-of-requires
-    weighed-requires
+    found-in-requires
     returns-2)

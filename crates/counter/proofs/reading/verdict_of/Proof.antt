@@ -3,6 +3,7 @@ use mathlib.Core.Path.{sym, _∙_}
 use Rattle.counter.specs.Slots.{two}
 use Rattle.counter.proofs.Standings.{stands-marked, guard-unfit, guard-unmarked, guard-marked}
 use Rattle.counter.specs.Reading.{verdictOf}
+use Rattle.counter.proofs.PlainBytes.{no-claim}
 use borrow.Author.Needs.{needs}
 use Rattle.counter.proofs.reading.verdict_of.Statement.{statement}
 use Rattle.counter.proofs.reading.verdict_of.Tie as tie
@@ -26,16 +27,16 @@ examined-requires c κs =
 
 returns : tie.Need-returns
 unfolding verdictOf
-returns c = sym (guard-unfit two _ _ _ (sym (c .before .before .before .standing-of .ensures) ∙ c .before .standing .given .1))
+returns c = (sym (guard-unfit two _ _ _ (sym (c .before .before .before .standing-of .ensures) ∙ c .before .standing .given .1)), λ e. no-claim e)
 
 returns-2 : tie.Need-returns-2
 unfolding verdictOf
-returns-2 c = sym (guard-unmarked two _ _ _ (sym (c .before .before .standing-of .ensures) ∙ c .enum-told .given .1))
+returns-2 c = (sym (guard-unmarked two _ _ _ (sym (c .before .before .standing-of .ensures) ∙ c .enum-told .given .1)), λ e. no-claim e)
 
 returns-3 : tie.Need-returns-3
 unfolding verdictOf
 returns-3 c =
-    c .examined .ensures ∙ sym (guard-marked two _ _ _ (sym (c .before .before .before .standing-of .ensures) ∙ c .before .enum-told2 .given .1))
+    (c .examined .ensures .0 ∙ sym (guard-marked two _ _ _ (sym (c .before .before .before .standing-of .ensures) ∙ c .before .enum-told2 .given .1)), c .examined .ensures .1)
 
 pub verdict-of-spec : {M : Type 1} → statement M
 verdict-of-spec =

@@ -1,0 +1,147 @@
+-- `store::store_next` meets its contract: the two slots of the nibble that changes, one after the other.
+use Prim.Native.Nat.{_+_, _/_, _≤_, _<_}
+use mathlib.Core.Path.{_≡_, sym, ap, _∙_}
+use mathlib.Core.Bool.{true}
+use native.Mathlib.Omega.{arith}
+use Rattle.code.specs.Codes.{codeOf}
+use Rattle.code.specs.Gray.{grayOf}
+use Rattle.code.specs.Nibbles.{nibbleOf}
+use Rattle.code.proofs.ChangeLaws.{step-nibble-small}
+use Rattle.cells.specs.Chip.{chip}
+use Rattle.cells.specs.Run.{plus}
+use Rattle.counter.specs.declared.verdict.Work.the-variants.{Done}
+use Rattle.counter.specs.Slots.{two}
+use Rattle.counter.specs.Places.{fitted}
+use Rattle.counter.specs.Map.{mapIn, pointerOf, sound}
+use Rattle.counter.proofs.Fitted.{fitted-ready}
+use Rattle.counter.proofs.StoreViews.{slot-settled}
+use Rattle.counter.proofs.StoreCosts.{slot-few}
+use Rattle.counter.proofs.NextStores.{changedNibble, next-stopped, next-done}
+use borrow.Author.Needs.{needs}
+use Rattle.counter.proofs.store.store_next.Statement.{statement}
+use Rattle.counter.proofs.store.store_next.Tie as tie
+
+-- the nibble is the one that changes
+here : (c : tie.After-changed-bit) → c .changed-bit .result / 4 ≡ changedNibble (c .before .before .before .args .count)
+here c = rw (c .changed-bit .ensures)
+
+small : (c : tie.After-changed-bit) → c .changed-bit .result / 4 < 8
+small c = let h = here c in let h′ = step-nibble-small (c .before .before .before .args .count) (let q = c .before .before .before .pre .2 in omega arith) in omega arith
+
+-- the byte is its code
+code : (c : tie.After-code-of) → let s = c .before .before .before .before .before .before in
+    c .code-of .result ≡ codeOf (nibbleOf (grayOf (s .args .count + 1)) (c .before .before .before .changed-bit .result / 4))
+code c = c .code-of .ensures ∙ ap codeOf (c .before .nibble-of .ensures ∙ ap (λ w. nibbleOf w (c .before .before .before .changed-bit .result / 4)) (c .before .before .gray-of .ensures))
+
+add-next : tie.Need-add-next
+add-next c = search needs
+
+changed-bit-requires : tie.Need-changed-bit-requires
+changed-bit-requires c κs = search needs
+
+cast-nibble : tie.Need-cast-nibble
+cast-nibble c = search needs
+
+gray-of-requires : tie.Need-gray-of-requires
+gray-of-requires c κs = search needs
+
+nibble-of-requires : tie.Need-nibble-of-requires
+nibble-of-requires c κs = search needs
+
+code-of-requires : tie.Need-code-of-requires
+code-of-requires c κs = search needs
+
+store-slot-requires : tie.Need-store-slot-requires
+store-slot-requires c κs = let s = c .before .before .before .before .before .before .before .before in let h = small (c .before .before .before .before .before) in (s .pre .0, s .pre .1, omega arith)
+
+enum-known-work : tie.Need-enum-known-work
+enum-known-work c = search needs
+
+same-length : tie.Need-same-length
+same-length c = search needs
+
+same-length-2 : tie.Need-same-length-2
+same-length-2 c = search needs
+
+returns : tie.Need-returns
+returns c =
+    let first = c .before .before .before .before .before .before .before in
+    let s = first .before .before .before .before .before .before .before .before .before in
+    sym (next-stopped _ (s .args .count) _ (s .pre .0) (s .pre .1) (s .pre .2) (s .pre .3) (here (first .before .before .before .before .before .before)) (code (first .before .before .before)) (first .store-slot .ensures) (c .before .work .given .1))
+
+enum-told : tie.Need-enum-told
+enum-told c = search needs
+
+add-store-slot : tie.Need-add-store-slot
+add-store-slot c = search needs
+
+-- the first slot leaves the chip fit for the second
+settled : (c : tie.After-store-slot) → c .store-slot .result .work ≡ Done
+    → let p = c .before .before .before .before .before .before .before .before .before .args .p in
+    let cells = c .store-slot .last .0 in
+    (fitted two p (chip cells (c .store-slot .last .1 .0)) ≡ true) × (sound two p (pointerOf (mapIn two p cells)) ≡ true)
+settled c h = let s = c .before .before .before .before .before .before .before .before .before in let l = small (c .before .before .before .before .before .before) in slot-settled two _ _ (s .pre .0) (s .pre .1) _ _ (omega arith) (c .store-slot .ensures) h
+
+store-slot-requires-2 : tie.Need-store-slot-requires-2
+store-slot-requires-2 c κs =
+    let first = c .before .before .before .before .before .before .before .before in
+    let fit = settled first (c .before .before .enum-told .given .1) in
+    let h = small (first .before .before .before .before .before .before) in
+    (fit .0, fit .1, omega arith)
+
+-- each of the two slots asks few writes and tries few spares
+few : (c : tie.After-store-slot2) → let first = c .before .before .before .before .before .before .before .before .before .store-slot .result in
+    let second = c .store-slot2 .result in
+    (first .writes ≤ 4099) × (first .tried ≤ 4096) × (second .writes ≤ 4099) × (second .tried ≤ 4096)
+few c =
+    let first = c .before .before .before .before .before .before .before .before .before in
+    let s = first .before .before .before .before .before .before .before .before .before in
+    let one = slot-few (fitted-ready (s .pre .0)) _ _ (first .store-slot .ensures) in
+    let fit = settled first (c .before .before .before .enum-told .given .1) in
+    let other = slot-few (fitted-ready (fit .0)) _ _ (c .store-slot2 .ensures) in
+    (one .0, one .1, other .0, other .1)
+
+add-t25 : tie.Need-add-t25
+add-t25 c = omega (arith, few (c .before .before .before .before .before .before))
+
+add-t26 : tie.Need-add-t26
+add-t26 c = omega (arith, few (c .before .before .before .before .before .before .before .before))
+
+same-length-3 : tie.Need-same-length-3
+same-length-3 c = search needs
+
+same-length-4 : tie.Need-same-length-4
+same-length-4 c = search needs
+
+returns-2 : tie.Need-returns-2
+returns-2 c =
+    let second = c .before .before .before .before .before .before .before .before in
+    let first = second .before .before .before .before .before .before .before .before .before in
+    let s = first .before .before .before .before .before .before .before .before .before in
+    sym
+    (next-done _ (s .args .count) _ (s .pre .0) (s .pre .1) (s .pre .2) (s .pre .3) (here (first .before .before .before .before .before .before)) (code (first .before .before .before)) (first .store-slot .ensures) (second .before .before .before .enum-told .given .1)
+    ∙ ap (plus (first .store-slot .result .writes) (first .store-slot .result .tried)) (sym (second .store-slot2 .ensures)))
+
+pub store-next-spec : {M : Type 1} → statement M
+store-next-spec =
+    tie.close
+    (tie.spec
+    add-next
+    changed-bit-requires
+    cast-nibble
+    gray-of-requires
+    nibble-of-requires
+    code-of-requires
+    store-slot-requires
+    enum-known-work
+    same-length
+    same-length-2
+    returns
+    enum-told
+    add-store-slot
+    store-slot-requires-2
+    add-t25
+    add-t26
+    same-length-3
+    same-length-4
+    returns-2)
