@@ -1,5 +1,5 @@
-// The doors for C, as include/lyre.h declares them. Each hands its arguments to the counter's door of the same
-// name, and promises what that door promises.
+// The doors for C, as include/lyre.h declares them. Each hands its arguments to the counter's door, and promises
+// what that door promises.
 ghost use mathlib.Core.Path.{_≡_};
 ghost use Rattle.cells.specs.Chip.{chip};
 ghost use Rattle.counter.specs.Places.{places};
@@ -40,6 +40,7 @@ fn plain(answer: counter::verdict::Answer) -> Answer
     }
 }
 
+// Opens a chip.
 #[no_mangle]
 pub extern "C" fn lyre_open(
     image: &mut [u8],
@@ -53,6 +54,7 @@ pub extern "C" fn lyre_open(
     plain(counter::doors::open(image, lives, m, s, e))
 }
 
+// Reads the count.
 #[no_mangle]
 pub extern "C" fn lyre_read(image: &[u8], m: usize, s: usize, e: usize) -> Answer
     ensures { λ r. ⌜ Reads (places m s e) (now (image .entry)) (answerIn r) ⌝ }
@@ -60,6 +62,7 @@ pub extern "C" fn lyre_read(image: &[u8], m: usize, s: usize, e: usize) -> Answe
     plain(counter::doors::read(image, m, s, e))
 }
 
+// Steps the count by one.
 #[no_mangle]
 pub extern "C" fn lyre_step(
     image: &mut [u8],
@@ -73,6 +76,7 @@ pub extern "C" fn lyre_step(
     plain(counter::doors::step(image, lives, m, s, e))
 }
 
+// Says where in the image the map cells of a copy stand.
 #[no_mangle]
 pub extern "C" fn lyre_map_part(image: &[u8], m: usize, s: usize, e: usize, copy: u32) -> Part
     ensures { λ r. ⌜ partIn r ≡ mapPartOf two (places m s e) (now (image .entry)) copy ⌝ }
