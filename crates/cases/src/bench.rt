@@ -17,7 +17,8 @@ use counter::doors;
 // Setting A's end of the area.
 pub const END_A: usize = 128;
 
-// Cells 127 and 124 hold nibble 1 of the two copies.
+// Cells 127 and 124 hold nibble 1 of the two copies. Going from 15 to 16 the word goes from 8 to 18 hex, and nibble 1
+// from the code 80 to 07; before that only nibble 0 changes.
 fn one_step(image: &mut [u8], lives: &mut [u32]) {
     let answer = step(image, lives, END_A);
     say_cells(b"14 step", answer, image, 127, 124);
@@ -29,12 +30,14 @@ fn sixteen_steps(image: &mut [u8], lives: &mut [u32]) {
     }
 }
 
+// A first opening writes sixteen codes, 22 pointer bytes and the mark: 40.
 fn case_14(image: &mut [u8], lives: &mut [u32]) {
     blank(image, lives);
     say_open(b"14 open", image, lives, END_A);
     sixteen_steps(image, lives);
 }
 
+// The write that cell 128 does not take, the spare's, the pointer's low byte and copy 2's: 4.
 fn case_15(image: &mut [u8], lives: &mut [u32]) {
     opened(image, lives, END_A);
     wear(lives, 128);
@@ -52,7 +55,7 @@ pub fn say_blank(name: &[u8], n: usize, m: usize, s: usize, e: usize) {
     }
 }
 
-// In the area from 246 the last High cell is 255, whose pointer is already there on a blank chip: 39 writes.
+// In the smallest area from 246 the last High cell is 255, whose pointer is already there on a blank chip: 39 writes.
 fn case_16() {
     say_blank(b"16 N 40, open", 40, 1, 25, 39);
     say_blank(b"16 N 41, open", 41, 1, 25, 40);
@@ -69,6 +72,7 @@ pub fn near_the_end(image: &mut [u8], lives: &mut [u32]) {
     set_both(image, 29, 34, 0x34);
 }
 
+// The step turns nibble 0 of the word from 1 to 0, in each copy.
 fn case_17(image: &mut [u8], lives: &mut [u32]) {
     near_the_end(image, lives);
     say_read(b"17 read", image, END_A);

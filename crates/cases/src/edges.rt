@@ -1,4 +1,4 @@
-// Cases that are easy to get wrong (document 01, "Easy to get wrong", "The map" and "Storing, opening, stepping").
+// Cases that are easy to get wrong, each from the sentence of document 01 that its comment gives in short.
 // On setting A opened, nibble 0 of the copies is in cells 128 and 125, nibble 7 in cells 29 and 34, and cell 122 is the
 // next Low spare.
 use super::bench::END_A;
@@ -23,14 +23,14 @@ const END_SMALL: usize = 40;
 // An area that ends six cells above 255, so that the next Low spare is 255 and its pointer's two bytes both change.
 const END_CROSSING: usize = 261;
 
-// A pointer byte of FF is already there on a blank chip.
+// "A cell that already reads it is not written": on a blank chip a pointer byte of FF is there, one in each of these areas.
 fn pointer_bytes_of_ff() {
     say_blank(b"E 255, open", 512, 1, 25, 255);
     say_blank(b"E 256, open", 512, 1, 25, 256);
     say_blank(b"E 511, open", 512, 1, 25, 511);
 }
 
-// Sums are whole-number sums: this map place and 24 come to 2 to the power of 64, plus 1.
+// "Sums are whole-number sums": this map place and 24 come to 2 to the power of 64, plus 1.
 fn place_near_the_top() {
     say_blank(
         b"M 18446744073709551593, open",
@@ -41,14 +41,14 @@ fn place_near_the_top() {
     );
 }
 
-// One right byte of the mark is no mark; the byte that is right is not written.
+// "Open, both mark bytes right": with one of them a chip is opened from zero, and the byte that is right is not written.
 fn only_the_first_mark_byte(image: &mut [u8], lives: &mut [u32]) {
     blank(image, lives);
     set(image, 1, 0xA5);
     say_open(b"blank but for A5, open", image, lives, END_A);
 }
 
-// Of a first opening over what a chip at count 1 holds, three bytes are not there: two codes of 0 and a mark byte.
+// The same on a chip at count 1, on which all that a first opening puts is there but nibble 0's two codes and 5A.
 fn without_the_second_mark_byte(image: &mut [u8], lives: &mut [u32]) {
     opened(image, lives, END_A);
     set_both(image, 128, 125, 0x07);
@@ -57,7 +57,7 @@ fn without_the_second_mark_byte(image: &mut [u8], lives: &mut [u32]) {
     say_open(b"5A gone, open", image, lives, END_A);
 }
 
-// A mended cell that takes a rewrite is not moved.
+// "Rewriting comes before moving": a mended cell takes its code in one write, and the pointer stays.
 fn mended_cell(image: &mut [u8], lives: &mut [u32]) {
     opened(image, lives, END_A);
     set(image, 128, 0x81);
@@ -65,7 +65,8 @@ fn mended_cell(image: &mut [u8], lives: &mut [u32]) {
     say_cells(b"cell 128 mended, open", answer, image, 3, 128);
 }
 
-// Copy 1 at 5 and copy 2 at 4: both stand at 5 before either is stepped.
+// "Step: read c, store c, then store c + 1": copy 2 is brought from 4 to 5 by one write, then both to 6, whose nibble 0 is
+// the code 52.
 fn lagging_step(image: &mut [u8], lives: &mut [u32]) {
     opened(image, lives, END_A);
     set(image, 128, 0xCB);
@@ -74,7 +75,7 @@ fn lagging_step(image: &mut [u8], lives: &mut [u32]) {
     say_cells(b"lag 1, step", answer, image, 128, 125);
 }
 
-// Copy 1 at 4294967295 and copy 2 one behind it: no step, but an opening settles it.
+// Copy 1 at 4294967295 and copy 2 one behind: refusal 7 has lag 0, and an opening settles copy 2 by one write.
 fn lag_at_the_last_count(image: &mut [u8], lives: &mut [u32]) {
     near_the_end(image, lives);
     set(image, 128, 0x80);
@@ -83,14 +84,14 @@ fn lag_at_the_last_count(image: &mut [u8], lives: &mut [u32]) {
     say_open(b"lag 1 at the last count, open", image, lives, END_A);
 }
 
-// Copy 1 at 0 and copy 2 at 4294967295 is no lag of 1.
+// "Comparing counts by wrapping subtraction": copy 1 at 0 and copy 2 at 4294967295.
 fn wrapping_lag(image: &mut [u8], lives: &mut [u32]) {
     opened(image, lives, END_A);
     set(image, 34, 0x34);
     say_read(b"0 and the last count, read", image, END_A);
 }
 
-// Below a failed spare the next one is tried.
+// "Skipping those that fail": 128 and 122 do not take the code, 121 does; then the pointer's low byte and copy 2.
 fn spare_below_a_failed_spare(image: &mut [u8], lives: &mut [u32]) {
     opened(image, lives, END_A);
     wear(lives, 128);
@@ -99,7 +100,7 @@ fn spare_below_a_failed_spare(image: &mut [u8], lives: &mut [u32]) {
     say_cell(b"cells 128 and 122 worn, step", answer, image, 3);
 }
 
-// After a failed low byte the high byte is not put, and the spare keeps its byte.
+// "A map byte's put fails", the low one: the call ends there, and the spare keeps its byte.
 fn low_byte_fails(image: &mut [u8], lives: &mut [u32]) {
     opened(image, lives, END_A);
     wear(lives, 128);
@@ -108,7 +109,7 @@ fn low_byte_fails(image: &mut [u8], lives: &mut [u32]) {
     say_cells(b"cells 128 and 3 worn, step", answer, image, 3, 122);
 }
 
-// A high byte that fails leaves half a pointer, here one past the area.
+// The same of the high byte: the low one is already FF, and the pointer now names 511, past the area.
 fn high_byte_fails(image: &mut [u8], lives: &mut [u32]) {
     opened(image, lives, END_CROSSING);
     wear(lives, 261);
@@ -117,14 +118,14 @@ fn high_byte_fails(image: &mut [u8], lives: &mut [u32]) {
     say_cells(b"cells 261 and 4 worn, step", answer, image, 3, 4);
 }
 
-// The Low addresses go down by one more, and the last High one has no room.
+// "Only the addresses that it has taken so far": the Low ones go down to 34, so that the last High one has no room.
 fn starved_high(image: &mut [u8], lives: &mut [u32]) {
     blank(image, lives);
     wear(lives, 40);
     say_open(b"cell 40 worn, open", image, lives, END_SMALL);
 }
 
-// A refused step that counted: copy 1 was stepped when copy 2 found no spare.
+// "As written so far": copy 1 was stepped when copy 2 found no spare, so the refused step counted.
 fn refused_step_that_counted(image: &mut [u8], lives: &mut [u32]) {
     opened(image, lives, END_SMALL);
     wear(lives, 37);

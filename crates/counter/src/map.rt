@@ -2,8 +2,8 @@
 // and its pointers. Slot k stands for nibble k % 8 of copy k / 8.
 ghost use mathlib.Core.Path.{_≡_};
 ghost use mathlib.Core.Bool.{true};
-ghost use Prim.Native.Nat.{ℕ, _<_};
-ghost use lib.ListN.{length, getD};
+ghost use Prim.Native.Nat.{ℕ, _+_, _≤_, _<_};
+ghost use lib.ListN.{length, getD, take, drop};
 ghost use Rattle.counter.specs.Slots.{two, kindOf};
 ghost use Rattle.counter.specs.Places.{placesGood};
 ghost use Rattle.counter.specs.Map.{mapIn, marked, offsetOf, pointerOf, listed};
@@ -40,6 +40,16 @@ impl Map {
         ensures { λ r. ⌜ r .place ≡ place ⌝ }
     {
         Map { place }
+    }
+
+    // The map's cells, as a part of the image.
+    pub fn cells(self, image: &[u8]) -> &[u8]
+        requires { ⌜ self .place + 24 ≤ length (now image) ⌝ }
+        ensures { λ r. ⌜ now r ≡ take 24 (drop (self .place) (now (image .entry))) ⌝ }
+    {
+        let from = self.place;
+        let to = from + Map::SIZE;
+        &image[from..to]
     }
 }
 
@@ -111,7 +121,5 @@ pub fn pointers_in(image: &[u8], p: Places) -> [usize; 16]
     requires { ⌜ placesGood two (length (now image)) p ≡ true ⌝ }
     ensures { λ r. ⌜ ((k : ℕ) → k < 16 → listed r k ≡ pointerOf (mapIn two p (now (image .entry))) k) ⌝ }
 {
-    let from = p.map;
-    let to = from + Map::SIZE;
-    pointers_of(&image[from..to])
+    pointers_of(Map::at(p.map).cells(image))
 }

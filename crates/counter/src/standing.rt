@@ -27,9 +27,7 @@ pub fn standing_of(image: &[u8], p: Places) -> Standing
     if !places_good(image.len(), p) {
         return Standing::Unfit(Refusal::BadPlaces);
     }
-    let from = p.map;
-    let to = from + Map::SIZE;
-    if is_marked(&image[from..to]) {
+    if is_marked(Map::at(p.map).cells(image)) {
         return Standing::Marked;
     }
     Standing::Unmarked

@@ -1,15 +1,15 @@
 -- `standing::standing_of` meets its contract.
+use Prim.Native.Nat.{ℕ}
 use mathlib.Core.Path.{_≡_, sym, ap, _∙_}
 use mathlib.Core.Bool.{true}
 use borrow.Author.Tests.{not-true, not-false}
 use native.Mathlib.Omega.{arith}
-use lib.ListN.{length}
+use lib.ListN.{length, take, drop, length-take, length-drop}
 use Rattle.counter.specs.Slots.{two}
 use Rattle.counter.specs.Places.{lengthGood, placesGood}
 use Rattle.counter.specs.Map.{mapIn, marked}
 use Rattle.counter.specs.Standing.{standingOf}
 use Rattle.counter.proofs.Settings.{good-placed}
-use Rattle.counter.proofs.MapBytes.{map-part}
 use borrow.Author.Needs.{needs}
 use Rattle.counter.proofs.standing.standing_of.Statement.{statement}
 use Rattle.counter.proofs.standing.standing_of.Tie as tie
@@ -32,42 +32,43 @@ returns-2 : tie.Need-returns-2
 unfolding standingOf
 returns-2 c = rw (long (c .before .before), sym (c .before .places-good .ensures) ∙ not-true _ (c .if2 .taken))
 
+at-requires : tie.Need-at-requires
+at-requires c κs = search needs
+
 -- and so are the settings
 placed : (c : tie.Else2) → let s = c .before .before .before .before .before .args in placesGood two (length (s .image .now)) (s .p) ≡ true
 placed c = sym (c .before .places-good .ensures) ∙ not-false _ (c .if2 .left)
 
-add-to : tie.Need-add-to
-add-to c = let good = good-placed two _ _ (placed c) in omega arith
+cells-requires : tie.Need-cells-requires
+cells-requires c κs = let good = good-placed two _ _ (placed (c .before)) in omega arith
 
-sub-is-marked : tie.Need-sub-is-marked
-sub-is-marked c = search needs
-
-part-is-marked-start : tie.Need-part-is-marked-start
-part-is-marked-start c = search needs
-
-part-is-marked-end : tie.Need-part-is-marked-end
-part-is-marked-end c = let good = good-placed two _ _ (placed c) in omega arith
+-- the cells are the map
+map : (c : tie.After-cells) → let s = c .before .before .before .before .before .before .before .args in
+    c .cells .result .now ≡ mapIn two (s .p) (s .image .now)
+map c =
+    let s = c .before .before .before .before .before .before .before .args in
+    c .cells .ensures ∙ ap (λ (m : ℕ). take 24 (drop m (s .image .now))) (c .before .at .ensures)
 
 is-marked-requires : tie.Need-is-marked-requires
-is-marked-requires c κs = search needs
+is-marked-requires c κs =
+    let good = good-placed two _ _ (placed (c .before .before)) in
+    rw (map c) (simp (length-take, length-drop) (omega arith))
 
 -- what was tested of the mark
-mark : (c : tie.After-is-marked) → let s = c .before .before .before .before .before .before .before .args in
+mark : (c : tie.After-is-marked) → let s = c .before .before .before .before .before .before .before .before .args in
     marked (mapIn two (s .p) (s .image .now)) ≡ c .is-marked .result
-mark c =
-    let s = c .before .before .before .before .before .before .before .args in
-    sym (c .is-marked .ensures ∙ ap marked (map-part two (s .p) (s .image .now)))
+mark c = sym (c .is-marked .ensures ∙ ap marked (map (c .before)))
 
 returns-3 : tie.Need-returns-3
 unfolding standingOf
 returns-3 c =
-    let good = c .before .before .before in
+    let good = c .before .before .before .before in
     rw (long (good .before .before), placed good, mark (c .before) ∙ c .if3 .taken)
 
 returns-4 : tie.Need-returns-4
 unfolding standingOf
 returns-4 c =
-    let good = c .before .before .before in
+    let good = c .before .before .before .before in
     rw (long (good .before .before), placed good, mark (c .before) ∙ c .if3 .left)
 
 pub standing-of-spec : {M : Type 1} → statement M
@@ -78,10 +79,8 @@ standing-of-spec =
     returns
     places-good-requires
     returns-2
-    add-to
-    sub-is-marked
-    part-is-marked-start
-    part-is-marked-end
+    at-requires
+    cells-requires
     is-marked-requires
     returns-3
     returns-4)
