@@ -1,8 +1,10 @@
 -- Sound pointers are those that could be tried one after another, and differ.
 --   tries-sound               such pointers are sound
+--   ordered-tries             pointers in the area and in order could be tried one after another
 --   sound-tries, sound-apart  sound ones are such
+--   border-tries              pointers on the right sides of a border could be tried one after another
 --   sound-differ              of pointers that could be tried, soundness is that they differ
-use Prim.Native.Nat.{ℕ, suc, _<_}
+use Prim.Native.Nat.{ℕ, suc, _+_, _-_, _%_, _≤_, _<_}
 use mathlib.Core.Path.{_≡_, refl, sym, ap, _∙_}
 use mathlib.Core.Bool.{Bool, true, false, not}
 use native.Mathlib.Decide.{decLt}
@@ -12,11 +14,12 @@ use borrow.Author.Tests.{eqb-false, ne-eqb, not-true}
 use Rattle.counter.specs.declared.map.Kind.{Kind}
 use Rattle.counter.specs.declared.map.Kind.the-variants.{High, Low}
 use Rattle.counter.specs.declared.places.Places.{Places}
-use Rattle.counter.specs.Slots.{slots, kindOf, every}
+use Rattle.counter.specs.Slots.{two, slots, kindOf, every}
 use Rattle.counter.specs.Map.{sound}
 use Rattle.counter.specs.Spares.{gapTo, mayTry}
 use Rattle.counter.proofs.RangeTests.{every-all, all-every, never}
-use Rattle.counter.proofs.SoundPointers.{Sound, test-sound, sound-test, below-apart}
+use Rattle.counter.proofs.Offsets.{kind-low, kind-high}
+use Rattle.counter.proofs.SoundPointers.{Inside, Sound, test-sound, sound-test, below-apart}
 use Rattle.counter.proofs.Gaps.{between-gap}
 use Rattle.counter.proofs.MayTry.{Tried, tried-facts, facts-tried}
 
@@ -60,24 +63,30 @@ module _ (copies : ℕ) (p : Places) (pointer : ℕ → ℕ) where
           order = λ i j l m high low. ordered i j l m high low (decLt i j);
         })
 
+  pub ordered-tries :
+      ((k : ℕ) → k < slots copies → Inside p (pointer k)) → ((k : ℕ) → k < slots copies → kindOf k ≡ High → pointer k ≤ 255)
+      → ((i j : ℕ) → i < slots copies → j < slots copies → kindOf i ≡ High → kindOf j ≡ Low → pointer i < pointer j)
+      → every (slots copies) follows ≡ true
+  ordered-tries inside reach order = all-every _ follows (λ k l. facts-tried p (kindOf k) (gapTo k p pointer) (pointer k) (tried k l))
+    where
+      tried : (k : ℕ) → k < slots copies → Tried p (kindOf k) (gapTo k p pointer) (pointer k)
+      tried k l =
+          record {
+            from = inside k l .from;
+            to = inside k l .to;
+            reach = reach k l;
+            below = λ high. between-gap k p pointer .greatest (suc (pointer k)) (let h = inside k l .to in omega arith)
+                (λ j m low. order k j l (omega arith) high low);
+            above = λ low. between-gap k p pointer .least (pointer k) (inside k l .from)
+                (λ j m high. order j k (omega arith) l high low);
+          }
+
   module _ (test : sound copies p pointer ≡ true) where
     facts : Sound (slots copies) p pointer
     facts = test-sound copies p pointer test
 
     pub sound-tries : every (slots copies) follows ≡ true
-    sound-tries = all-every _ follows (λ k l. facts-tried p (kindOf k) (gapTo k p pointer) (pointer k) (tried k l))
-      where
-        tried : (k : ℕ) → k < slots copies → Tried p (kindOf k) (gapTo k p pointer) (pointer k)
-        tried k l =
-            record {
-              from = facts .inside k l .from;
-              to = facts .inside k l .to;
-              reach = facts .reach k l;
-              below = λ high. between-gap k p pointer .greatest (suc (pointer k)) (let h = facts .inside k l .to in omega arith)
-                  (λ j m low. facts .order k j l (omega arith) high low);
-              above = λ low. between-gap k p pointer .least (pointer k) (facts .inside k l .from)
-                  (λ j m high. facts .order j k (omega arith) l high low);
-            }
+    sound-tries = ordered-tries (facts .inside) (facts .reach) (facts .order)
 
     pub sound-apart : every (slots copies) new ≡ true
     sound-apart =
@@ -90,3 +99,64 @@ module _ (copies : ℕ) (p : Places) (pointer : ℕ → ℕ) where
       go : (b : Bool) → every (slots copies) new ≡ b → every (slots copies) new ≡ sound copies p pointer
       go true e = e ∙ sym (tries-sound tries e)
       go false e = e ∙ sym (never (sound copies p pointer) (λ s. let z : _≡_ {A = ℕ} 0 1 = cc (e, sound-apart s) in omega arith))
+
+-- the kind of a slot, by its number
+is-high : (k : ℕ) → kindOf k ≡ High → 3 ≤ k % 8
+is-high k e = go (decLt (k % 8) 3)
+  where
+    go : Dec (k % 8 < 3) → 3 ≤ k % 8
+    go (yes h) = absurd (unlike (sym e ∙ kind-low k h))
+    go (no h) = omega arith
+
+is-low : (k : ℕ) → kindOf k ≡ Low → k % 8 < 3
+is-low k e = go (decLt (k % 8) 3)
+  where
+    go : Dec (k % 8 < 3) → k % 8 < 3
+    go (yes h) = h
+    go (no h) = absurd (unlike (sym (kind-high k (omega arith)) ∙ e))
+
+-- in two copies, Low pointers from x up to the area's end, x at most 256, and High ones from its start up to x
+module _ (p : Places) (pointer : ℕ → ℕ) (x : ℕ)
+    (lows : 0 < x → (x ≤ 256) × ((n : ℕ) → n < 3 → (x ≤ pointer n) × (pointer n ≤ p .end) × (x ≤ pointer (8 + n)) × (pointer (8 + n) ≤ p .end)))
+    (highs : (n : ℕ) → 3 ≤ n → n < 8 → (p .start ≤ pointer n) × (pointer n < x) × (p .start ≤ pointer (8 + n)) × (pointer (8 + n) < x)) where
+  positive : 0 < x
+  positive = let h = highs 3 (omega arith) (omega arith) .1 in omega arith
+
+  low-at : (k : ℕ) → k < 16 → k % 8 < 3 → (x ≤ pointer k) × (pointer k ≤ p .end)
+  low-at k l low = go (decLt k 8)
+    where
+      go : Dec (k < 8) → (x ≤ pointer k) × (pointer k ≤ p .end)
+      go (yes h) = let f = lows positive .1 k (omega arith) in (f .0, f .1)
+      go (no h) =
+          let e : 8 + (k - 8) ≡ k = omega arith in
+          let f = lows positive .1 (k - 8) (omega arith) in
+          (rw e at (f .2), rw e at (f .3))
+
+  high-at : (k : ℕ) → k < 16 → 3 ≤ k % 8 → (p .start ≤ pointer k) × (pointer k < x)
+  high-at k l high = go (decLt k 8)
+    where
+      go : Dec (k < 8) → (p .start ≤ pointer k) × (pointer k < x)
+      go (yes h) = let f = highs k (omega arith) h in (f .0, f .1)
+      go (no h) =
+          let e : 8 + (k - 8) ≡ k = omega arith in
+          let f = highs (k - 8) (omega arith) (omega arith) in
+          (rw e at (f .2), rw e at (f .3))
+
+  inside-at : (k : ℕ) → k < 16 → Inside p (pointer k)
+  inside-at k l = go (decLt (k % 8) 3)
+    where
+      go : Dec (k % 8 < 3) → Inside p (pointer k)
+      go (yes low) =
+          let f = low-at k l low in
+          let first = highs 3 (omega arith) (omega arith) in
+          record { from = omega (arith, f .0, first .0, first .1); to = f .1 }
+      go (no high) =
+          let f = high-at k l (omega arith) in
+          let first = lows positive .1 0 (omega arith) in
+          record { from = f .0; to = omega (arith, f .1, first .0, first .1) }
+
+  pub border-tries : every 16 (follows two p pointer) ≡ true
+  border-tries =
+      ordered-tries two p pointer inside-at
+      (λ k l high. let f = high-at k l (is-high k high) .1 in let top = lows positive .0 in omega arith)
+      (λ i j l m high low. let f = high-at i l (is-high i high) .1 in let g = low-at j m (is-low j low) .0 in omega arith)

@@ -1,7 +1,7 @@
 // Whether the pointers of a map are sound (document 01, "The map").
 ghost use mathlib.Core.Path.{_≡_};
 ghost use mathlib.Core.Bool.{true, not};
-ghost use Prim.Native.Nat.{ℕ, _<_, _%_};
+ghost use Prim.Native.Nat.{ℕ, _+_, _≤_, _<_, _%_};
 ghost use lib.Dec.{eqb};
 ghost use Rattle.counter.specs.Slots.{two, kindOf, every};
 ghost use Rattle.counter.specs.Map.{listed, sound};
@@ -12,12 +12,72 @@ use super::spares::may_try;
 use super::spares::narrowed;
 use super::spares::whole_area;
 
+// A number that is at most either of two.
+fn lower(a: usize, b: usize) -> usize
+    ensures { λ r. ⌜ (r ≤ a) × (r ≤ b) ⌝ }
+{
+    if a < b {
+        return a;
+    }
+    b
+}
+
+// A number at most 256 and at most every Low pointer, or 0 where one is past the area's end.
+fn low_border(pointers: &[usize; 16], p: Places) -> usize
+    ensures { λ r. ⌜ (0 < r → (r ≤ 256) × ((n : ℕ) → n < 3 → (r ≤ listed (now (pointers .entry)) n) × (listed (now (pointers .entry)) n ≤ p .end) × (r ≤ listed (now (pointers .entry)) (8 + n)) × (listed (now (pointers .entry)) (8 + n) ≤ p .end))) ⌝ }
+{
+    let mut border = 256;
+    let mut n = 0;
+    while n < 3 {
+        let a = pointers[n];
+        let b = pointers[8 + n];
+        if p.end < a {
+            return 0;
+        }
+        if p.end < b {
+            return 0;
+        }
+        border = lower(lower(border, a), b);
+        n += 1;
+    }
+    border
+}
+
+// Whether every High pointer is in the area and below a border.
+fn highs_below(pointers: &[usize; 16], p: Places, border: usize) -> bool
+    ensures { λ r. ⌜ (r ≡ true → (n : ℕ) → 3 ≤ n → n < 8 → (p .start ≤ listed (now (pointers .entry)) n) × (listed (now (pointers .entry)) n < border) × (p .start ≤ listed (now (pointers .entry)) (8 + n)) × (listed (now (pointers .entry)) (8 + n) < border)) ⌝ }
+{
+    let mut n = 3;
+    while n < 8 {
+        let a = pointers[n];
+        let b = pointers[8 + n];
+        if a < p.start {
+            return false;
+        }
+        if border <= a {
+            return false;
+        }
+        if b < p.start {
+            return false;
+        }
+        if border <= b {
+            return false;
+        }
+        n += 1;
+    }
+    true
+}
+
 // Whether each pointer could be tried after those before it: then all are in the area, High ones at most
 // 255, and every High one below every Low one.
 fn in_order(pointers: &[usize; 16], p: Places) -> bool
     requires { ⌜ p .end < 4096 ⌝ }
     ensures { λ r. ⌜ r ≡ every 16 (λ k. mayTry p (kindOf k) (gapTo k p (listed (now (pointers .entry)))) (listed (now (pointers .entry)) k)) ⌝ }
 {
+    let border = low_border(pointers, p);
+    if highs_below(pointers, p, border) {
+        return true;
+    }
     let mut gap = whole_area(p);
     let mut slot = 0;
     while slot < Map::SLOTS {

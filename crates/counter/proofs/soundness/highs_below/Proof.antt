@@ -1,0 +1,94 @@
+-- `soundness::highs_below` meets its contract: the High pointers passed are in the area and below the border.
+use Prim.Native.Nat.{ℕ, _+_, _-_, _≤_, _<_}
+use native.Mathlib.Omega.{arith}
+use borrow.Author.Count.{below-more}
+use Rattle.counter.specs.Map.{listed}
+use Rattle.counter.proofs.PlainBytes.{no-claim}
+use borrow.Author.Needs.{needs}
+use Rattle.counter.proofs.soundness.highs_below.Statement.{statement}
+use Rattle.counter.proofs.soundness.highs_below.Tie as tie
+
+abbrev Inv-loop : tie.InvT-loop
+Inv-loop pointers p border n₀ n =
+    record {
+      least : 3 ≤ n;
+      most : n ≤ 8;
+      each : (k : ℕ) → k < n → 3 ≤ k → (p .start ≤ listed pointers k) × (listed pointers k < border) × (p .start ≤ listed pointers (8 + k)) × (listed pointers (8 + k) < border);
+    }
+
+abbrev μ-loop : tie.MeasureT-loop
+μ-loop pointers p border n₀ n = 8 - n
+
+loop-holds : tie.Need-loop-holds Inv-loop μ-loop
+loop-holds c = record { least = omega arith; most = omega arith; each = λ k l m. absurd (omega arith) }
+
+mul-a : tie.Need-mul-a Inv-loop μ-loop
+mul-a c = search needs
+
+element-copy-out-a : tie.Need-element-copy-out-a Inv-loop μ-loop
+element-copy-out-a c = search needs
+
+add-b : tie.Need-add-b Inv-loop μ-loop
+add-b c = search needs
+
+mul-b : tie.Need-mul-b Inv-loop μ-loop
+mul-b c = search needs
+
+element-copy-out-b : tie.Need-element-copy-out-b Inv-loop μ-loop
+element-copy-out-b c = search needs
+
+returns : tie.Need-returns Inv-loop μ-loop
+returns c = λ e. no-claim e
+
+returns-2 : tie.Need-returns-2 Inv-loop μ-loop
+returns-2 c = λ e. no-claim e
+
+returns-3 : tie.Need-returns-3 Inv-loop μ-loop
+returns-3 c = λ e. no-claim e
+
+returns-4 : tie.Need-returns-4 Inv-loop μ-loop
+returns-4 c = λ e. no-claim e
+
+add-n : tie.Need-add-n Inv-loop μ-loop
+add-n c = search needs
+
+loop-less : tie.Need-loop-less Inv-loop μ-loop
+loop-less c = search needs
+
+loop-again : tie.Need-loop-again Inv-loop μ-loop
+loop-again c =
+    let loop = c .before .before .before .before .before .before .before .before .before .loop in
+    let s = c .before .before .before .before .before .before .before .before .before .before .args in
+    let pointers = s .pointers .now in
+    record {
+      least = let h = loop .inv .least in omega arith;
+      most = omega arith;
+      each =
+          below-more (λ k. 3 ≤ k → (s .p .start ≤ listed pointers k) × (listed pointers k < s .border) × (s .p .start ≤ listed pointers (8 + k)) × (listed pointers (8 + k) < s .border)) (loop .n)
+          (loop .inv .each)
+          (λ m. (omega (arith, c .before .before .before .before .if1 .left), omega (arith, c .before .before .before .if2 .left), omega (arith, c .before .if3 .left), omega (arith, c .if4 .left)));
+    }
+
+returns-5 : tie.Need-returns-5 Inv-loop μ-loop
+returns-5 c e n m l = c .before .loop .inv .each n (omega arith) m
+
+pub highs-below-spec : {M : Type 1} → statement M
+highs-below-spec =
+    tie.close
+    (tie.spec
+    Inv-loop
+    μ-loop
+    loop-holds
+    mul-a
+    element-copy-out-a
+    add-b
+    mul-b
+    element-copy-out-b
+    returns
+    returns-2
+    returns-3
+    returns-4
+    add-n
+    loop-less
+    loop-again
+    returns-5)
