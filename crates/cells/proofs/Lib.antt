@@ -5,3 +5,4 @@ pub mod Puts
 pub mod Addresses
 pub mod Walks
 pub mod Rows
+pub mod AskedOnce

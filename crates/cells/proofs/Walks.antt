@@ -1,4 +1,5 @@
 -- Laws of a walk along a row of cells: what it keeps, what it changes, what it costs.
+--   try-put                   a cell tried is a put, counted
 use Prim.Native.Nat.{ℕ, zero, suc, _+_, _-_, _≤_, _<_}
 use mathlib.Core.Path.{_≡_, refl, ap, _∙_}
 use mathlib.Core.Bool.{Bool, true, false}
@@ -220,3 +221,8 @@ module _ (cells : ℕ) (way : Way) (a b : ℕ) where
 -- a walk says of at most a write and a try for each cell
 pub walk-few : (n : ℕ) (way : Way) (a b : ℕ) (s : Chip) {v : Seen Found} → v ≡ view (walk n way a b s) → (v .writes ≤ v .tried) × (v .tried ≤ n)
 walk-few n way a b s e = rw e (walk-cost n way a b s)
+
+-- a cell tried is a put, counted
+pub try-put : (a b : ℕ) (s : Chip) → tryAt a b s ≡ run (putAt a b s .answer) (putAt a b s .log) 1 (putAt a b s .after)
+unfolding tryAt
+try-put a b s = refl

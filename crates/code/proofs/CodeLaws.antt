@@ -2,6 +2,7 @@
 --   code-small        a code is a byte
 --   code-complement   the codes of d and 15 - d are complements
 --   code-apart        any two codes differ in at least four bits
+--   code-zero           the code of 0
 use mathlib.Core.Path.{_≡_, refl}
 use mathlib.Core.Logic.{_≢_}
 use mathlib.Core.Bool.{Bool, true, _||_}
@@ -41,3 +42,8 @@ unfolding apart
 code-apart d e hd he differ =
     let far : apart d e ≡ true = agree (apart d) (λ e. true) 16 (row-apart d hd) e he in
     leb-true _ _ (rw (ne-eqb d e differ) at far)
+
+-- the code of 0
+pub code-zero : codeOf 0 ≡ 0x80
+unfolding codes codeOf
+code-zero = refl

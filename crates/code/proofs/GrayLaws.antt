@@ -7,6 +7,7 @@
 --   count-done      where nothing is left, the count stands
 --   count-of-gray   the count of a count's Gray word is that count
 --   gray-of-count   the Gray word of a Gray word's count is that Gray word
+--   gray-zero           the Gray word of 0
 use mathlib.Core.Path.{_≡_, refl, sym, ap, _∙_}
 use Prim.Native.Nat.{ℕ, zero, suc, _/_, _^_, _<_}
 use native.Mathlib.Nat.{lt-of-le-of-lt, div-le-self, pow-suc}
@@ -94,3 +95,8 @@ gray-of-count g h =
     ap (bitXor (countOf g)) (halves-half bits g)
     ∙ ap (λ (x : ℕ). bitXor x (countOf (g / 2))) (count-step g h)
     ∙ xor-back g (countOf (g / 2))
+
+-- the Gray word of 0
+pub gray-zero : grayOf 0 ≡ 0
+unfolding grayOf
+gray-zero = refl

@@ -11,13 +11,14 @@
 --   nibble-read-small   the nibble that a reading gives is below 16
 --   nibble-round        the code of a word's nibble reads as that nibble
 --   nibble-kept         the code of a word's nibble is not lost
+--   clean-code          a byte whose entry is a nibble is that nibble's code
 use mathlib.Core.Path.{_≡_, refl, sym, ap, _∙_}
 use mathlib.Core.Bool.{Bool, true, false}
 use mathlib.Core.List.{List, [], _∷_}
 use Prim.Native.Nat.{ℕ, _+_, _≤_, _<_}
 use native.Mathlib.Omega.{arith}
 use lib.Count.{ones, trailingZeros}
-use lib.Dec.{eqb, lit<, lit≤}
+use lib.Dec.{eqb, lit<, lit≤, ltb}
 use lib.ListN.{length, getD}
 use Rattle.code.specs.declared.reading.Reading.{Reading}
 use Rattle.code.specs.declared.reading.Reading.the-variants.{Clean, Mended, Lost}
@@ -28,6 +29,7 @@ use Rattle.code.specs.Nibbles.{nibbleOf}
 use Rattle.code.specs.Tabulate.{tabulate}
 use Rattle.code.proofs.TabulateLaws.{at, agree}
 use Rattle.code.proofs.NibbleLaws.{nibble-small}
+use borrow.Author.Tests.{lt-ltb}
 
 -- ---- all bytes
 
@@ -134,3 +136,17 @@ unfolding isLost nibbleRead
 lost-zero (Clean d) h = let z : _≡_ {A = ℕ} 0 1 = cc in absurd (omega arith)
 lost-zero (Mended d) h = let z : _≡_ {A = ℕ} 0 1 = cc in absurd (omega arith)
 lost-zero Lost h = refl
+
+-- the first where the test holds, else the second
+abbrev either : Bool → ℕ → ℕ → ℕ
+either true a b = a
+either false a b = b
+
+-- the test over the whole table
+clean-codes : (b : ℕ) → b < 256 → either (ltb (entryOf b) 16) (codeOf (entryOf b)) b ≡ b
+unfolding codes codeOf distance nearFrom near entryOf ones trailingZeros
+clean-codes = agree (λ b. either (ltb (entryOf b) 16) (codeOf (entryOf b)) b) (λ b. b) 256 refl
+
+-- a byte whose entry is a nibble is that nibble's code
+pub clean-code : (b : ℕ) → b < 256 → entryOf b < 16 → b ≡ codeOf (entryOf b)
+clean-code b small clean = sym (rw (lt-ltb _ _ clean) at (clean-codes b small))

@@ -6,7 +6,6 @@ pub mod SoundPointers
 pub mod Gaps
 pub mod MayTry
 pub mod SoundByTries
-pub mod CodeMore
 pub mod Ready
 pub mod Fitted
 pub mod Pointers

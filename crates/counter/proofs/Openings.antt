@@ -33,7 +33,8 @@ use Rattle.counter.specs.Spares.{wholeArea}
 use Rattle.counter.specs.Verdict.{_andThen_}
 use Rattle.counter.specs.Store.{slotCode, putPointer, mapped}
 use Rattle.counter.specs.Opening.{Taken, takeFrom, putPointers, putMark, untried, firstOpening}
-use Rattle.counter.proofs.CodeMore.{gray-zero, nibble-zero}
+use Rattle.code.proofs.GrayLaws.{gray-zero}
+use Rattle.code.proofs.NibbleLaws.{nibble-zero}
 use Rattle.counter.proofs.Offsets.{offset-first, offset-inside}
 use Rattle.counter.proofs.SoundPointers.{Inside, Sound, sound-none}
 use Rattle.counter.proofs.Gaps.{between-none}

@@ -12,6 +12,7 @@
 --   lowest-here, lowest-on    a search that finds, or goes on to the next number
 --   every-same, some-same, lowest-same  of another test with the same values
 --   tabulate-filled           a list with a function's values
+--   no-claim                  what holds only where a test held that did not
 use Prim.Native.Nat.{ℕ, zero, suc, _+_, _-_, _≤_, _<_}
 use mathlib.Core.Path.{_≡_, refl, ap₂, sym, ap, _∙_}
 use mathlib.Core.Bool.{Bool, true, false}
@@ -166,3 +167,6 @@ pub tabulate-filled : (xs : List ℕ) (n : ℕ) (f : ℕ → ℕ) → length xs 
 tabulate-filled xs n f e h =
     ext-getD 0 xs (tabulate n 0 f) (e ∙ sym (tabulate-length n 0 f))
     (λ k l. h k (omega arith) ∙ ap f (sym (zero-add k)) ∙ sym (tabulate-at n 0 f k (omega arith)))
+
+pub no-claim : {A : Type 0} → false ≡ true → A
+no-claim e = let z : _≡_ {A = ℕ} 0 1 = cc in absurd (omega arith)

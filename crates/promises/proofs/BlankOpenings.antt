@@ -21,8 +21,8 @@ use Rattle.counter.specs.Spares.{wholeArea}
 use Rattle.counter.specs.Verdict.{ending, _endingIn_, _andThen_}
 use Rattle.counter.specs.Opening.{Taken, takeFrom, putPointers, putMark, untried, firstOpening}
 use Rattle.counter.specs.Doors.{unopened, openRun}
-use Rattle.counter.proofs.CodeMore.{code-zero}
-use Rattle.promises.proofs.CellsMore.{asked-outside, Once, once-append}
+use Rattle.code.proofs.CodeLaws.{code-zero}
+use Rattle.cells.proofs.AskedOnce.{asked-outside, Once, once-append}
 use Rattle.counter.proofs.RangeTests.{true-and}
 use Rattle.counter.proofs.MapBytes.{map-byte}
 use Rattle.counter.proofs.Fitted.{ready-fitted}

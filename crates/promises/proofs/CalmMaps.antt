@@ -23,7 +23,7 @@ use Rattle.counter.specs.Map.{markBytes, offsetOf, pointerBytes}
 use Rattle.counter.specs.Verdict.{_andThen_}
 use Rattle.counter.specs.Store.{putPointer, mapped}
 use Rattle.counter.specs.Opening.{putPointers, putMark}
-use Rattle.promises.proofs.CellsMore.{asked-outside, Once, once-none, once-append, once-row}
+use Rattle.cells.proofs.AskedOnce.{asked-outside, Once, once-none, once-append, once-row}
 use Rattle.counter.proofs.Offsets.{bytes-length, offset-first, offset-before, offset-inside}
 use Rattle.counter.proofs.Ready.{Ready, InMap, ready-kept}
 use Rattle.counter.proofs.Pointers.{OfPointer, pointer-laws}

@@ -15,11 +15,10 @@ use Rattle.cells.specs.declared.row.Found.the-variants.{At}
 use Rattle.cells.specs.Chip.{Chip, cellAt, lifeAt, writeAt, Paired, Kept}
 use Rattle.cells.specs.Run.{Run, write, run, _then_, _giving_}
 use Rattle.cells.specs.Log.{askedOf, Every.none, Every.more}
-use Rattle.cells.specs.Row.{tryAt}
 use Rattle.cells.proofs.Writes.{kept-paired, write-laws}
 use Rattle.cells.proofs.Logs.{asked-here, asked-elsewhere, asked-most}
 use Rattle.cells.proofs.Puts.{put-laws}
-use Rattle.cells.proofs.Walks.{walk-laws}
+use Rattle.cells.proofs.Walks.{walk-laws, try-put}
 use Rattle.counter.specs.declared.map.Kind.{Kind}
 use Rattle.counter.specs.declared.map.Kind.the-variants.{High, Low}
 use Rattle.counter.specs.declared.places.Places.{Places}
@@ -29,7 +28,7 @@ use Rattle.counter.specs.Slots.{slots, kindOf}
 use Rattle.counter.specs.Spares.{wholeArea, narrow, wayOf, nextOf, sparesOf}
 use Rattle.counter.specs.Store.{trySpares}
 use Rattle.counter.specs.Opening.{Taken, taken, takeFrom}
-use Rattle.promises.proofs.CellsMore.{Once, once-none, once-append, asked-outside}
+use Rattle.cells.proofs.AskedOnce.{Once, once-none, once-append, asked-outside}
 use Rattle.counter.proofs.Settings.{Placed}
 use Rattle.counter.proofs.Offsets.{kind-low, kind-high}
 use Rattle.counter.proofs.Gaps.{Free}
@@ -109,9 +108,10 @@ module _ (n k : ℕ) (g : Gap) (s : Chip) (untouched : Untouched g s) (next : Ne
   in-gap = record { from = next .free .from; to = next .free .to }
 
   spares-are : trySpares k g (codeOf 0) s ≡ run (At a) (write a (codeOf 0) ∷ []) 1 t
-  unfolding trySpares tryAt
+  unfolding trySpares
   spares-are =
       walk-laws (sparesOf (kindOf k) g) (wayOf (kindOf k)) a (codeOf 0) s (untouched .paired) .first (next .some) (untouched .alive a in-gap)
+      ∙ ap (λ (r : Run Bool). r giving At a) (try-put a (codeOf 0) s)
       ∙ ap (λ (r : Run Bool). run (At a) (r .log) 1 (r .after)) (put-laws a (codeOf 0) s (untouched .paired) .taken (untouched .other a in-gap) (untouched .alive a in-gap))
 
   kept : Kept (λ c. c ≡ a) s t

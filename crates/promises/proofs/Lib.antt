@@ -1,5 +1,4 @@
 pub mod Bench
-pub mod CellsMore
 pub mod NoSecond
 pub mod DoorRuns
 pub mod Codes

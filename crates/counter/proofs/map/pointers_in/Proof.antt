@@ -3,7 +3,7 @@ use Prim.Native.Nat.{ℕ}
 use mathlib.Core.Path.{_≡_, ap, _∙_}
 use mathlib.Core.List.{List}
 use native.Mathlib.Omega.{arith}
-use lib.ListN.{length, take, drop, length-take, length-drop}
+use lib.ListN.{take, drop, length-take, length-drop}
 use Rattle.counter.specs.Slots.{two}
 use Rattle.counter.specs.Map.{mapIn, pointerOf}
 use Rattle.counter.proofs.Settings.{good-placed}

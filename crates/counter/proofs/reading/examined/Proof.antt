@@ -10,7 +10,7 @@ use Rattle.counter.specs.Reading.{dataAt, examine}
 use Rattle.counter.proofs.Settings.{good-placed, length-good}
 use Rattle.counter.proofs.SoundPointers.{test-sound, sound-agree}
 use Rattle.counter.proofs.Weighed.{weigh-same}
-use Rattle.counter.proofs.PlainBytes.{no-claim}
+use Rattle.counter.proofs.RangeTests.{no-claim}
 use borrow.Author.Needs.{needs}
 use Rattle.counter.proofs.reading.examined.Statement.{statement}
 use Rattle.counter.proofs.reading.examined.Tie as tie

@@ -2,18 +2,15 @@
 use Prim.Native.Nat.{ℕ, _<_}
 use mathlib.Core.Path.{_≡_, sym, ap, _∙_}
 use native.Mathlib.Omega.{arith}
-use lib.IntN.{pos}
 use Rattle.code.specs.Gray.{countOf}
 use Rattle.code.specs.Nibbles.{wordOf}
 use Rattle.code.proofs.GrayLaws.{count-small}
-use Rattle.counter.specs.declared.verdict.Verdict.{Verdict}
-use Rattle.counter.specs.declared.verdict.Verdict.the-variants.{Good}
 use Rattle.counter.specs.Slots.{two}
 use Rattle.counter.specs.Map.{listed}
 use Rattle.counter.specs.Store.{slotCode}
-use Rattle.counter.specs.Reading.{weigh}
 use Rattle.counter.proofs.ReadBack.{weigh-exact}
-use Rattle.counter.proofs.PlainBytes.{no-claim, word-fits, plain-held}
+use Rattle.counter.proofs.PlainBytes.{word-fits, plain-held}
+use Rattle.counter.proofs.RangeTests.{no-claim}
 use borrow.Author.Needs.{needs}
 use Rattle.counter.proofs.reading.found_in.Statement.{statement}
 use Rattle.counter.proofs.reading.found_in.Tie as tie

@@ -7,8 +7,8 @@ use lib.ListN.{length, getD, length-set}
 use Rattle.code.specs.Codes.{codeOf}
 use Rattle.code.specs.Entries.{entryOf}
 use Rattle.code.proofs.Filled.{all-set}
-use Rattle.code.proofs.ReadingLaws.{entry-at}
-use Rattle.counter.proofs.PlainBytes.{no-claim, clean-code}
+use Rattle.code.proofs.ReadingLaws.{entry-at, clean-code}
+use Rattle.counter.proofs.RangeTests.{no-claim}
 use borrow.Author.Needs.{needs}
 use Rattle.counter.proofs.reading.plain_nibbles.Statement.{statement}
 use Rattle.counter.proofs.reading.plain_nibbles.Tie as tie

@@ -3,7 +3,7 @@ use Prim.Native.Nat.{ℕ, _+_, _-_, _≤_, _<_}
 use native.Mathlib.Omega.{arith}
 use borrow.Author.Count.{below-more}
 use Rattle.counter.specs.Map.{listed}
-use Rattle.counter.proofs.PlainBytes.{no-claim}
+use Rattle.counter.proofs.RangeTests.{no-claim}
 use borrow.Author.Needs.{needs}
 use Rattle.counter.proofs.soundness.highs_below.Statement.{statement}
 use Rattle.counter.proofs.soundness.highs_below.Tie as tie

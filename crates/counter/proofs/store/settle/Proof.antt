@@ -1,5 +1,5 @@
 -- `store::settle` meets its contract: storing what all slots hold asks nothing.
-use mathlib.Core.Path.{_≡_, sym, ap}
+use mathlib.Core.Path.{sym, ap}
 use Rattle.cells.specs.Run.{Run, view}
 use Rattle.counter.specs.declared.verdict.Work.{Work}
 use Rattle.counter.specs.Slots.{two}

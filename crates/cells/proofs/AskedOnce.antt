@@ -1,4 +1,4 @@
--- Laws of logs and rows that crate `cells` does not publish: work that asks each cell for at most one write.
+-- Work that asks each cell for at most one write.
 --   asked-place               a cell that was asked is in the place of the log
 --   asked-outside             a cell outside it was not
 --   Once                      each cell was asked at most once
