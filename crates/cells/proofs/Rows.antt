@@ -208,7 +208,3 @@ module _ (bytes : List ℕ) (a : ℕ) where
     -- the put of the byte numbered i failed
     pub row-left-failed : v .answer ≡ false → view (rowLeft bytes a i s) ≡ seen (At (a + i)) (v .writes) 0 (v .after)
     row-left-failed h = rw (drop-cons bytes i 0) (row-stopped _ _ _ s e h)
-
--- a row says of at most one write a byte
-pub row-few : (bs : List ℕ) (a : ℕ) (s : Chip) {v : Seen Found} → v ≡ view (putRow bs a s) → v .writes ≤ length bs
-row-few bs a s e = rw e (row-cost bs a s)

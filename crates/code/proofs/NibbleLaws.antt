@@ -8,7 +8,6 @@
 --   word-none           no nibbles from k on make the word 0
 --   word-more           the word of the nibbles from k - 1 on, by that of the nibbles from k on
 --   word-of-nibbles     the word of a word's nibbles is that word
---   same-nibbles        words with equal nibbles are equal
 --   nibble-zero         the nibbles of 0
 --   word-nibble         the nibbles of a word that was made of nibbles
 use mathlib.Core.Path.{_≡_, refl, sym, ap, _∙_}
@@ -21,10 +20,9 @@ use lib.Arith.{mod-mul}
 use lib.Dec.{lit<}
 use lib.ListN.{length, getD, drop, length-drop, drop-of-length-le}
 use lib.Pow.{pow-add}
-use lib.Seq.{drop-cons, ext-getD}
+use lib.Seq.{drop-cons}
 use Rattle.code.specs.Tabulate.{tabulate}
 use Rattle.code.specs.Nibbles.{nibbleOf, wordOf}
-use Rattle.code.proofs.TabulateLaws.{at}
 
 -- a power of sixteen as a power of two
 pub sixteens : (k : ℕ) → 16 ^ k ≡ 2 ^ (4 * k)
@@ -88,13 +86,6 @@ word-from w i (suc n) =
 -- the word of a word's nibbles is that word
 pub word-of-nibbles : (w : ℕ) → w < 2 ^ 32 → wordOf (tabulate (nibbleOf w) 0 8) ≡ w
 word-of-nibbles w h = word-from w 0 8 ∙ ap (λ (x : ℕ). x % 16 ^ 8) (div-one w) ∙ mod-eq-of-lt h
-
--- words with equal nibbles are equal
-pub same-nibbles : (v w : ℕ) → v < 2 ^ 32 → w < 2 ^ 32 → ((k : ℕ) → k < 8 → nibbleOf v k ≡ nibbleOf w k) → v ≡ w
-same-nibbles v w hv hw e = sym (word-of-nibbles v hv) ∙ ap wordOf same ∙ word-of-nibbles w hw
-  where
-    same : tabulate (nibbleOf v) 0 8 ≡ tabulate (nibbleOf w) 0 8
-    same = ext-getD 0 _ _ refl (λ k h. at (nibbleOf v) 0 8 k h ∙ e k h ∙ sym (at (nibbleOf w) 0 8 k h))
 
 -- the nibbles of 0
 pub nibble-zero : (k : ℕ) → nibbleOf 0 k ≡ 0

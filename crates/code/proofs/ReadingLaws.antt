@@ -8,22 +8,21 @@
 --   code-clean          the code of d reads clean d
 --   code-injective      two nibbles with one code are one
 --   lost-zero           a lost reading gives the nibble 0
---   nibble-read-small   the nibble that a reading gives is below 16
 --   nibble-round        the code of a word's nibble reads as that nibble
 --   nibble-kept         the code of a word's nibble is not lost
 --   clean-code          a byte whose entry is a nibble is that nibble's code
 use mathlib.Core.Path.{_≡_, refl, sym, ap, _∙_}
 use mathlib.Core.Bool.{Bool, true, false}
 use mathlib.Core.List.{List, [], _∷_}
-use Prim.Native.Nat.{ℕ, _+_, _≤_, _<_}
+use Prim.Native.Nat.{ℕ, _+_, _<_}
 use native.Mathlib.Omega.{arith}
 use lib.Count.{ones, trailingZeros}
-use lib.Dec.{eqb, lit<, lit≤, ltb}
-use lib.ListN.{length, getD}
+use lib.Dec.{ltb}
+use lib.ListN.{getD}
 use Rattle.code.specs.declared.reading.Reading.{Reading}
 use Rattle.code.specs.declared.reading.Reading.the-variants.{Clean, Mended, Lost}
 use Rattle.code.specs.Codes.{codes, codeOf, distance}
-use Rattle.code.specs.Readings.{keep, nearFrom, near, nearest, readingOf, twofold, isLost, nibbleRead}
+use Rattle.code.specs.Readings.{nearFrom, near, readingOf, twofold, isLost, nibbleRead}
 use Rattle.code.specs.Entries.{entryOf, entries, readingAt, twofoldAt}
 use Rattle.code.specs.Nibbles.{nibbleOf}
 use Rattle.code.specs.Tabulate.{tabulate}
@@ -88,37 +87,6 @@ code-clean = agree (λ d. readingOf (codeOf d)) Clean 16 refl
 pub code-injective : (d e : ℕ) → d < 16 → e < 16 → codeOf d ≡ codeOf e → d ≡ e
 code-injective d e hd he same =
     let one : Clean d ≡ Clean e = sym (code-clean d hd) ∙ ap readingOf same ∙ code-clean e he in cc
-
--- a list's first number, if it has one, is below n
-abbrev FirstBelow : ℕ → List ℕ → Type 0
-FirstBelow n [] = Unit {0}
-FirstBelow n (d ∷ ds) = d < n
-
--- so it is with a number below n in front, kept or not
-keep-below : (n : ℕ) (test : Bool) (d : ℕ) (ds : List ℕ) → d < n → FirstBelow n ds → FirstBelow n (keep test d ds)
-keep-below n true d ds h rest = h
-keep-below n false d ds h rest = rest
-
--- of the nibbles near a byte
-near-below : (n k b d : ℕ) (xs : List ℕ) → d + length xs ≤ n → FirstBelow n (nearFrom k b d xs)
-unfolding nearFrom
-near-below n k b d [] h = tt
-near-below n k b d (x ∷ xs) h =
-    keep-below n (eqb (distance b x) k) d (nearFrom k b (d + 1) xs) (omega arith)
-    (near-below n k b (d + 1) xs (omega arith))
-
--- of the one that is read
-nearest-below : (n : ℕ) (ds es : List ℕ) → 0 < n → FirstBelow n ds → FirstBelow n es → nibbleRead (nearest ds es) < n
-unfolding nibbleRead
-nearest-below n (d ∷ ds) es p hd he = hd
-nearest-below n [] (e ∷ es) p hd he = he
-nearest-below n [] [] p hd he = p
-
--- the nibble that a reading gives is below 16
-pub nibble-read-small : (b : ℕ) → nibbleRead (readingOf b) < 16
-unfolding codes near readingOf
-nibble-read-small b =
-    nearest-below 16 (near 0 b) (near 1 b) (lit< tt) (near-below 16 0 b 0 codes (lit≤ tt)) (near-below 16 1 b 0 codes (lit≤ tt))
 
 -- the code of a word's nibble reads as that nibble
 pub nibble-round : (w k : ℕ) → nibbleRead (readingOf (codeOf (nibbleOf w k))) ≡ nibbleOf w k

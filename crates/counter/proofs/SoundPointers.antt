@@ -4,12 +4,10 @@
 --   test-sound, sound-test    the test turned into it and back
 --   test-reach, reach-test    so for the one clause on High pointers
 --   sound-none                of no slots
---   sound-same                of another function with the same values
---   sound-fewer               of fewer slots
 --   below-apart               different from every earlier one is different from every other
 --   sound-agree               pointers that agree on all slots are sound alike
 use Prim.Native.Nat.{ℕ, _≤_, _<_}
-use mathlib.Core.Path.{_≡_, refl, sym, ap, _∙_, ap₂}
+use mathlib.Core.Path.{_≡_, refl, sym, ap, ap₂}
 use mathlib.Core.Bool.{true, not}
 use native.Mathlib.Decide.{decLt}
 use native.Mathlib.Omega.{arith}
@@ -104,24 +102,6 @@ sound-none p pointer =
       reach = λ k l e. absurd (omega arith);
       apart = λ i j l m d e. omega arith;
       order = λ i j l m e f. absurd (omega arith);
-    }
-
-pub sound-same : {n : ℕ} {p : Places} {f : ℕ → ℕ} (g : ℕ → ℕ) → ((k : ℕ) → k < n → f k ≡ g k) → Sound n p f → Sound n p g
-sound-same {n} {p} {f} g same s =
-    record {
-      inside = λ k l. rw (← same k l) (s .inside k l);
-      reach = λ k l e. rw (← same k l) (s .reach k l e);
-      apart = λ i j l m d e. s .apart i j l m d (same i l ∙ e ∙ sym (same j m));
-      order = λ i j l m e e′. rw (← same i l, ← same j m) (s .order i j l m e e′);
-    }
-
-pub sound-fewer : {m n : ℕ} {p : Places} {f : ℕ → ℕ} → m ≤ n → Sound n p f → Sound m p f
-sound-fewer h s =
-    record {
-      inside = λ k l. s .inside k (omega arith);
-      reach = λ k l e. s .reach k (omega arith) e;
-      apart = λ i j l m d e. s .apart i j (omega arith) (omega arith) d e;
-      order = λ i j l m e e′. s .order i j (omega arith) (omega arith) e e′;
     }
 
 pub sound-agree : (copies : ℕ) (p : Places) (one other : ℕ → ℕ) → ((k : ℕ) → k < slots copies → one k ≡ other k) → sound copies p one ≡ sound copies p other
