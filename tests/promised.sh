@@ -17,4 +17,4 @@ for crate in crates/*/; do
     [ ! -f "$crate/src/lib.rt" ] || heads "$crate"src/*.rt
 done | grep -v ensures && { echo 'promised: these promise nothing'; exit 1; }
 heads crates/counter/src/doors.rt crates/lyre/src/lib.rt | grep requires && { echo 'promised: these ask something'; exit 1; }
-echo 'promised: every public function promises, and no door asks'
+echo 'promised: every public function of a library promises, and no door asks'

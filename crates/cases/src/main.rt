@@ -1,5 +1,4 @@
-// Runs bench cases 14 to 17, and cases that are easy to get wrong, and prints a line for each answer. The lines of
-// `stdout` were worked out from document 01.
+// Runs bench cases 14 to 17, and cases that are easy to get wrong, and prints a line for each answer, which is held to `stdout`.
 mod bench;
 mod chips;
 mod edges;
