@@ -33,24 +33,24 @@ static void same(lyre_answer one, lyre_answer other)
     exit(1);
 }
 
-static figures open_both(places at)
+static figures write_both(writing_door *archive, writing_door *c, places at)
 {
     lyre_answer one, other;
     figures figures;
-    figures.archive = count_writing(lyre_open, theirs.image, theirs.lives, at, &one);
-    figures.c = count_writing(fast_open, ours.image, ours.lives, at, &other);
+    figures.archive = count_writing(archive, theirs.image, theirs.lives, at, &one);
+    figures.c = count_writing(c, ours.image, ours.lives, at, &other);
     same(one, other);
     return figures;
 }
 
+static figures open_both(places at)
+{
+    return write_both(lyre_open, fast_open, at);
+}
+
 static figures step_both(places at)
 {
-    lyre_answer one, other;
-    figures figures;
-    figures.archive = count_writing(lyre_step, theirs.image, theirs.lives, at, &one);
-    figures.c = count_writing(fast_step, ours.image, ours.lives, at, &other);
-    same(one, other);
-    return figures;
+    return write_both(lyre_step, fast_step, at);
 }
 
 static figures read_both(places at)
