@@ -3,6 +3,7 @@ pub mod XorLaws
 pub mod TrailingLaws
 pub mod CodeLaws
 pub mod NibbleLaws
+pub mod QuickLaws
 pub mod ReadingLaws
 pub mod GrayLaws
 pub mod ChangeLaws

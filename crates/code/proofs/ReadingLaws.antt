@@ -16,17 +16,18 @@ use mathlib.Core.Bool.{Bool, true, false}
 use mathlib.Core.List.{List, [], _∷_}
 use Prim.Native.Nat.{ℕ, _+_, _<_}
 use native.Mathlib.Omega.{arith}
-use lib.Count.{ones, trailingZeros}
+use lib.Count.{ones, onesIn, trailingZeros}
 use lib.Dec.{ltb}
 use lib.ListN.{getD}
 use Rattle.code.specs.declared.reading.Reading.{Reading}
 use Rattle.code.specs.declared.reading.Reading.the-variants.{Clean, Mended, Lost}
 use Rattle.code.specs.Codes.{codes, codeOf, distance}
-use Rattle.code.specs.Readings.{nearFrom, near, readingOf, twofold, isLost, nibbleRead}
-use Rattle.code.specs.Entries.{entryOf, entries, readingAt, twofoldAt}
+use Rattle.code.specs.Readings.{nearFrom, near, nearest, several, readingOf, twofold, isLost, nibbleRead}
+use Rattle.code.specs.Entries.{entryFrom, entryOf, entries, readingAt, twofoldAt}
 use Rattle.code.specs.Nibbles.{nibbleOf}
 use Rattle.code.specs.Tabulate.{tabulate}
-use Rattle.code.proofs.TabulateLaws.{at, agree}
+use Rattle.code.proofs.TabulateLaws.{at, agree, alike}
+use Rattle.code.proofs.QuickLaws.{quickNear, by-near}
 use Rattle.code.proofs.NibbleLaws.{nibble-small}
 use borrow.Author.Tests.{lt-ltb}
 
@@ -41,24 +42,33 @@ tally (Lost ∷ rs) = let n = tally rs in (n .0, n .1, n .2 + 1)
 
 -- of the 256 bytes 16 are clean, 128 mended and 112 lost
 pub tally-of-bytes : tally (tabulate readingOf 0 256) ≡ (16, 128, 112)
-unfolding codes distance nearFrom near readingOf ones
-tally-of-bytes = refl
+unfolding codes onesIn readingOf
+tally-of-bytes = ap tally (alike readingOf (λ b. nearest (quickNear 0 b) (quickNear 1 b)) 256 (by-near nearest))
 
--- of a byte: the reading that its entry stands for, whether its entry tells of two codes one bit away, and whether there are
-abbrev told : ℕ → Reading × Bool × Bool
-told b = (readingAt (entryOf b), twofoldAt (entryOf b), twofold b)
+-- the first where the test holds, else the second
+abbrev either : Bool → ℕ → ℕ → ℕ
+either true a b = a
+either false a b = b
 
--- what these three should be
-abbrev due : ℕ → Reading × Bool × Bool
-due b = (readingOf b, false, false)
+-- of the byte b, given the nibbles at no and at one bit: the reading that its entry stands for, whether its entry tells of two
+-- codes one bit away, whether there are, and its entry's own code, where that is a nibble
+abbrev told : ℕ → List ℕ → List ℕ → Reading × Bool × Bool × ℕ
+told b same near = let e = entryFrom b same near in (readingAt e, twofoldAt e, several near, either (ltb e 16) (codeOf e) b)
+
+-- what these four should be
+abbrev due : ℕ → List ℕ → List ℕ → Reading × Bool × Bool × ℕ
+due b same near = (nearest same near, false, false, b)
 
 -- the test over the whole table
-table-right : (b : ℕ) → b < 256 → told b ≡ due b
-unfolding codes codeOf distance nearFrom near readingOf twofold entryOf ones trailingZeros
-table-right = agree told due 256 refl
+table-right : (b : ℕ) → b < 256 → told b (near 0 b) (near 1 b) ≡ due b (near 0 b) (near 1 b)
+unfolding codes codeOf onesIn trailingZeros
+table-right b h =
+    by-near (told b) b h ∙ agree (λ b. told b (quickNear 0 b) (quickNear 1 b)) (λ b. due b (quickNear 0 b) (quickNear 1 b)) 256 refl b h
+    ∙ sym (by-near (due b) b h)
 
 -- no byte is one bit from two codes
 pub no-twofold : (b : ℕ) → b < 256 → twofold b ≡ false
+unfolding twofold
 no-twofold b h = ap (λ right. right .2) (table-right b h)
 
 -- ---- the table
@@ -70,10 +80,12 @@ entry-at = at entryOf 0 256
 
 -- the entry of a byte stands for its reading
 pub entry-reading : (b : ℕ) → b < 256 → readingAt (entryOf b) ≡ readingOf b
+unfolding readingOf entryOf
 entry-reading b h = ap (λ right. right .0) (table-right b h)
 
 -- the entry of a byte tells whether it is one bit from two codes
 pub entry-twofold : (b : ℕ) → b < 256 → twofoldAt (entryOf b) ≡ twofold b
+unfolding entryOf
 entry-twofold b h = ap (λ right. right .1) (table-right b h) ∙ sym (no-twofold b h)
 
 -- ---- codes and nibbles
@@ -105,16 +117,7 @@ lost-zero (Clean d) h = let z : _≡_ {A = ℕ} 0 1 = cc in absurd (omega arith)
 lost-zero (Mended d) h = let z : _≡_ {A = ℕ} 0 1 = cc in absurd (omega arith)
 lost-zero Lost h = refl
 
--- the first where the test holds, else the second
-abbrev either : Bool → ℕ → ℕ → ℕ
-either true a b = a
-either false a b = b
-
--- the test over the whole table
-clean-codes : (b : ℕ) → b < 256 → either (ltb (entryOf b) 16) (codeOf (entryOf b)) b ≡ b
-unfolding codes codeOf distance nearFrom near entryOf ones trailingZeros
-clean-codes = agree (λ b. either (ltb (entryOf b) 16) (codeOf (entryOf b)) b) (λ b. b) 256 refl
-
 -- a byte whose entry is a nibble is that nibble's code
 pub clean-code : (b : ℕ) → b < 256 → entryOf b < 16 → b ≡ codeOf (entryOf b)
-clean-code b small clean = sym (rw (lt-ltb _ _ clean) at (clean-codes b small))
+unfolding entryOf
+clean-code b small clean = sym (rw (lt-ltb _ _ clean) at (ap (λ right. right .3) (table-right b small)))

@@ -1,10 +1,12 @@
 -- Functions filled into lists: what is computed over a whole table holds at each of its places.
 --   at      the value at a place of the list is the function's
 --   agree   two functions whose lists are equal are equal at each number of the list
-use mathlib.Core.Path.{_≡_, sym, ap, _∙_}
-use mathlib.Core.List.{List}
-use Prim.Native.Nat.{ℕ, zero, suc, _+_, _<_}
+--   alike   two functions that are equal at each number of the list have equal lists
+use mathlib.Core.Path.{_≡_, refl, sym, ap, _∙_}
+use mathlib.Core.List.{List, _∷_}
+use Prim.Native.Nat.{ℕ, zero, suc, _+_, _≤_, _<_}
 use native.Mathlib.Nat.{add-zero, zero-add, add-suc, suc-add, le-of-suc-le-suc, not-suc-le-zero}
+use native.Mathlib.Omega.{arith}
 use lib.ListN.{getD}
 use Rattle.code.specs.Tabulate.{tabulate}
 
@@ -21,3 +23,13 @@ module _ {A : Type 0} where
   -- two functions whose lists are equal are equal at each number of the list
   pub agree : (f g : ℕ → A) (n : ℕ) → tabulate f 0 n ≡ tabulate g 0 n → (k : ℕ) → k < n → f k ≡ g k
   agree f g n e k h = sym (at f (f k) n k h) ∙ ap (λ (l : List A). getD l k (f k)) e ∙ at g (f k) n k h
+
+  alike-from : (f g : ℕ → A) (i n : ℕ) → ((k : ℕ) → i ≤ k → k < i + n → f k ≡ g k) → tabulate f i n ≡ tabulate g i n
+  alike-from f g i zero same = refl
+  alike-from f g i (suc n) same =
+      let rest = alike-from f g (suc i) n (λ k low high. same k (omega arith) (omega arith)) in
+      λ t. same i (omega arith) (omega arith) t ∷ rest t
+
+  -- two functions that are equal at each number of the list have equal lists
+  pub alike : (f g : ℕ → A) (n : ℕ) → ((k : ℕ) → k < n → f k ≡ g k) → tabulate f 0 n ≡ tabulate g 0 n
+  alike f g n same = alike-from f g 0 n (λ k low high. same k (omega arith))

@@ -281,14 +281,14 @@ pub fn wide(byte: u8) -> usize
 }
 
 // The entry of a byte in a table that is lent.
-pub fn entry_in(table: &[u8; 256], byte: u8) -> u8
+pub(crate) fn entry_in(table: &[u8; 256], byte: u8) -> u8
     ensures { λ r. ⌜ r ≡ getD (now (table .entry)) byte 0 ⌝ }
 {
     table[byte as usize]
 }
 
 // The entry of a byte.
-pub fn entry_of(byte: u8) -> u8
+pub(crate) fn entry_of(byte: u8) -> u8
     ensures { λ r. ⌜ r ≡ entryOf byte ⌝ }
 {
     let table = laid();
