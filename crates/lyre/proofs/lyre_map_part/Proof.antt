@@ -1,0 +1,13 @@
+-- `lyre_map_part` meets its contract: its part stands for the one that the counter's door gave.
+use borrow.Author.Needs.{needs}
+use Rattle.lyre.proofs.lyre_map_part.Statement.{statement}
+use Rattle.lyre.proofs.lyre_map_part.Tie as tie
+
+part-of-requires : tie.Need-part-of-requires
+part-of-requires c κs = search needs
+
+returns : tie.Need-returns
+returns c = c .part-of .ensures
+
+pub lyre-map-part-spec : {M : Type 1} → statement M
+lyre-map-part-spec = tie.close (tie.spec part-of-requires returns)
