@@ -14,9 +14,8 @@
 --   between-moved             a pointer moved to a free cell narrows the gap by it
 --   sound-joined              sound pointers, one of them put at a spare
 --   gap-more                  the gap of one slot more
---   gap-same                  of another function with the same values
 use Prim.Native.Nat.{ℕ, zero, suc, _+_, _-_, _≤_, _<_, min, max}
-use mathlib.Core.Path.{_≡_, refl, sym, ap, _∙_, ap₂}
+use mathlib.Core.Path.{_≡_, refl, sym, ap, _∙_}
 use mathlib.Core.Bool.{true}
 use native.Mathlib.Decide.{ℕ-discrete}
 use native.Mathlib.Omega.{arith}
@@ -291,12 +290,3 @@ module _ {n m k a : ℕ} {p : Places} {f : ℕ → ℕ} (h : ℕ → ℕ) (s : S
 pub gap-more : (k : ℕ) (p : Places) (pointer : ℕ → ℕ) → narrow (kindOf k) (pointer k) (gapTo k p pointer) ≡ gapTo (k + 1) p pointer
 unfolding gapTo
 gap-more k p pointer = rw (add-one k)
-
-to-same : (n : ℕ) (p : Places) (f g : ℕ → ℕ) → ((k : ℕ) → k < n → f k ≡ g k) → gapTo n p f ≡ gapTo n p g
-unfolding gapTo
-to-same zero p f g same = refl
-to-same (suc n) p f g same = ap₂ (narrow (kindOf n)) (same n (omega arith)) (to-same n p f g (λ k l. same k (omega arith)))
-
-pub gap-same : (copies : ℕ) (p : Places) (f g : ℕ → ℕ) → ((k : ℕ) → k < slots copies → f k ≡ g k) → gapOf copies p f ≡ gapOf copies p g
-unfolding gapOf
-gap-same copies p f g same = to-same (slots copies) p f g same

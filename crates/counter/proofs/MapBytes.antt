@@ -1,6 +1,7 @@
 -- The map inside an image: its bytes, its mark and its pointers, by the cells they lie in.
 --   map-byte                  byte j of the map is the cell j behind its place
 --   map-part                  the part of the image that starts at the map's place is the map
+--   map-whole                 it is whole where the settings are good
 --   map-same                  images that agree on the map's cells have the same map
 --   pointer-same              maps that agree on a pointer's bytes have the same pointer
 --   pointer-put               the bytes of an address, read as a pointer, give the address
@@ -21,6 +22,7 @@ use Rattle.counter.specs.Slots.{kindOf}
 use Rattle.counter.specs.Places.{mapCells}
 use Rattle.counter.specs.Map.{mapIn, byteAt, marked, offsetOf, pointerAt, pointerOf, pointerBytes}
 use Rattle.counter.proofs.Offsets.{bytesOf}
+use Rattle.counter.proofs.Settings.{Placed}
 
 pub map-byte : (copies : ℕ) (p : Places) (cells : List ℕ) (j : ℕ) → j < mapCells copies → byteAt (mapIn copies p cells) j ≡ getD cells (p .map + j) 0
 map-byte copies p cells j h = getD-take (mapCells copies) (drop (p .map) cells) j 0 h ∙ getD-drop (p .map) cells j 0
@@ -82,3 +84,6 @@ mark-put map e f = rw (e, f)
 
 pub map-part : (copies : ℕ) (p : Places) (cells : List ℕ) → take (p .map + mapCells copies - p .map) (drop (p .map) cells) ≡ mapIn copies p cells
 map-part copies p cells = let e : p .map + mapCells copies - p .map ≡ mapCells copies = omega arith in rw e
+
+pub map-whole : {copies : ℕ} {p : Places} (cells : List ℕ) → Placed copies (length cells) p → length (mapIn copies p cells) ≡ mapCells copies
+map-whole cells good = let fits = good .mapFits in simp (length-take, length-drop) (omega arith)

@@ -5,9 +5,8 @@
 --   test-reach, reach-test    so for the one clause on High pointers
 --   sound-none                of no slots
 --   below-apart               different from every earlier one is different from every other
---   sound-agree               pointers that agree on all slots are sound alike
 use Prim.Native.Nat.{ℕ, _≤_, _<_}
-use mathlib.Core.Path.{_≡_, refl, sym, ap, ap₂}
+use mathlib.Core.Path.{_≡_, refl, sym, ap}
 use mathlib.Core.Bool.{true, not}
 use native.Mathlib.Decide.{decLt}
 use native.Mathlib.Omega.{arith}
@@ -18,7 +17,7 @@ use Rattle.counter.specs.declared.map.Kind.the-variants.{High, Low}
 use Rattle.counter.specs.declared.places.Places.{Places}
 use Rattle.counter.specs.Slots.{slots, kindOf, every, _and_}
 use Rattle.counter.specs.Map.{inArea, reachable, inOrder, sound}
-use Rattle.counter.proofs.RangeTests.{and-true, true-and, every-all, all-every, every-same}
+use Rattle.counter.proofs.RangeTests.{and-true, true-and, every-all, all-every}
 
 pub record Inside (p : Places) (a : ℕ) : Type 0 where
   pub from : p .start ≤ a
@@ -103,11 +102,3 @@ sound-none p pointer =
       apart = λ i j l m d e. omega arith;
       order = λ i j l m e f. absurd (omega arith);
     }
-
-pub sound-agree : (copies : ℕ) (p : Places) (one other : ℕ → ℕ) → ((k : ℕ) → k < slots copies → one k ≡ other k) → sound copies p one ≡ sound copies p other
-unfolding sound
-sound-agree copies p one other agree =
-    ap₂ _and_ (every-same _ _ _ (λ k l. ap (inArea p) (agree k l)))
-    (ap₂ _and_ (every-same _ _ _ (λ k l. ap (reachable (kindOf k)) (agree k l)))
-    (ap₂ _and_ (every-same _ _ _ (λ j m. every-same j _ _ (λ i l. ap not (ap₂ eqb (agree i (omega arith)) (agree j m)))))
-    (every-same _ _ _ (λ i l. every-same _ _ _ (λ j m. ap₂ (inOrder (kindOf i) (kindOf j)) (agree i l) (agree j m))))))

@@ -15,7 +15,6 @@ ghost use Rattle.counter.specs.Verdict.{ending, answerOf, outcome, outco
 ghost use Rattle.counter.specs.Store.{store, Holds};
 ghost use Rattle.counter.specs.Doors.{beginning, reopening, partVerdict, mapPartOf, Opens, Steps, Reads, HandsBack};
 use super::map::Map;
-use super::map::pointers_in;
 use super::opening::open_first;
 use super::places::Places;
 use super::reading::verdict_of;
@@ -168,8 +167,7 @@ fn part_verdict(image: &[u8], p: Places, copy: usize) -> Verdict
     requires { ⌜ standingOf two p (now image) ≡ Standing.Marked ⌝ }
     ensures { λ r. ⌜ r ≡ partVerdict two p (now (image .entry)) copy ⌝ }
 {
-    let pointers = pointers_in(image, p);
-    if !is_sound(&pointers, p) {
+    if !is_sound(Map::at(p.map).cells(image), p) {
         return Verdict::Refused(Refusal::UnsoundMap);
     }
     if copy < 1 {

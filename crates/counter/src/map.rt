@@ -1,13 +1,10 @@
 // The map (document 01, "The map"), handed on as the part of the image that starts at its place: its mark
 // and its pointers. Slot k stands for nibble k % 8 of copy k / 8.
 ghost use mathlib.Core.Path.{_≡_};
-ghost use mathlib.Core.Bool.{true};
-ghost use Prim.Native.Nat.{ℕ, _+_, _≤_, _<_};
-ghost use lib.ListN.{length, getD, take, drop};
-ghost use Rattle.counter.specs.Slots.{two, kindOf};
-ghost use Rattle.counter.specs.Places.{placesGood};
-ghost use Rattle.counter.specs.Map.{mapIn, marked, offsetOf, pointerOf, listed};
-use super::places::Places;
+ghost use Prim.Native.Nat.{_+_, _%_, _≤_, _<_};
+ghost use lib.ListN.{length, take, drop};
+ghost use Rattle.counter.specs.Slots.{kindOf};
+ghost use Rattle.counter.specs.Map.{marked, offsetOf, pointerOf};
 use code::table::wide;
 
 // High cells hold nibbles 3 to 7, Low cells nibbles 0 to 2.
@@ -102,24 +99,10 @@ pub fn pointer_of(map: &[u8], slot: usize) -> usize
     wide(map[at])
 }
 
-// The pointers of all slots.
-pub fn pointers_of(map: &[u8]) -> [usize; 16]
-    requires { ⌜ length (now map) ≡ 24 ⌝ }
-    ensures { λ r. ⌜ ((k : ℕ) → k < 16 → (getD r k 0 ≡ pointerOf (now (map .entry)) k) × (getD r k 0 < 65536)) ⌝ }
+// The low byte of a slot's pointer, which is the first of its bytes.
+pub fn low_byte_of(map: &[u8], slot: usize) -> usize
+    requires { ⌜ (length (now map) ≡ 24) × (slot < 16) ⌝ }
+    ensures { λ r. ⌜ (r ≡ pointerOf (now (map .entry)) slot % 256) × (r < 256) ⌝ }
 {
-    let mut pointers = [0usize; 16];
-    let mut slot = 0;
-    while slot < Map::SLOTS {
-        pointers[slot] = pointer_of(map, slot);
-        slot += 1;
-    }
-    pointers
-}
-
-// The pointers of the map of an image.
-pub fn pointers_in(image: &[u8], p: Places) -> [usize; 16]
-    requires { ⌜ placesGood two (length (now image)) p ≡ true ⌝ }
-    ensures { λ r. ⌜ ((k : ℕ) → k < 16 → listed r k ≡ pointerOf (mapIn two p (now (image .entry))) k) ⌝ }
-{
-    pointers_of(Map::at(p.map).cells(image))
+    wide(map[offset_of(slot)])
 }

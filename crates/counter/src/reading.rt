@@ -10,13 +10,13 @@ ghost use Rattle.code.specs.Readings.{isLost, nibbleRead};
 ghost use Rattle.code.specs.Entries.{readingAt};
 ghost use Rattle.cells.specs.Chip.{pick};
 ghost use Rattle.counter.specs.Slots.{two, lowest};
-ghost use Rattle.counter.specs.Map.{listed};
-ghost use Rattle.counter.specs.Reading.{amiss, countIn, decide, weigh, examine, verdictOf};
+ghost use Rattle.counter.specs.Map.{listed, pointerOf};
+ghost use Rattle.counter.specs.Reading.{dataAt, amiss, countIn, decide, weigh, examine, verdictOf};
 ghost use Rattle.counter.specs.Places.{lengthGood, placesGood};
 ghost use Rattle.counter.specs.Store.{slotCode, Holds};
 ghost use Rattle.counter.specs.declared.verdict.Verdict.the-variants.{Good};
 use super::map::Map;
-use super::map::pointers_in;
+use super::map::pointer_of;
 use super::places::Places;
 use super::soundness::is_sound;
 use super::standing::Standing;
@@ -35,14 +35,14 @@ use code::table::laid;
 use code::table::wide;
 
 // The bytes at the pointers.
-pub fn data_of(image: &[u8], pointers: &[usize; 16]) -> [u8; 16]
-    requires { ⌜ ((k : ℕ) → k < 16 → getD (now pointers) k 0 < length (now image)) ⌝ }
-    ensures { λ r. ⌜ ((k : ℕ) → k < 16 → getD r k 0 ≡ getD (now (image .entry)) (getD (now (pointers .entry)) k 0) 0) ⌝ }
+pub fn data_of(image: &[u8], map: &[u8]) -> [u8; 16]
+    requires { ⌜ (length (now map) ≡ 24) × ((k : ℕ) → k < 16 → pointerOf (now map) k < length (now image)) ⌝ }
+    ensures { λ r. ⌜ ((k : ℕ) → k < 16 → listed r k ≡ dataAt (now (image .entry)) (now (map .entry)) k) ⌝ }
 {
     let mut data = [0u8; 16];
     let mut slot = 0;
     while slot < Map::SLOTS {
-        data[slot] = image[pointers[slot]];
+        data[slot] = image[pointer_of(map, slot)];
         slot += 1;
     }
     data
@@ -220,14 +220,14 @@ pub fn examined(image: &[u8], p: Places) -> Finding
     requires { ⌜ (lengthGood two (length (now image)) ≡ true) × (placesGood two (length (now image)) p ≡ true) ⌝ }
     ensures { λ r. ⌜ (r .verdict ≡ examine two p (now (image .entry))) × (r .exact ≡ true → (c : ℕ) (lag : ℤ) → r .verdict ≡ Good c lag → Holds two p c (now (image .entry))) ⌝ }
 {
-    let pointers = pointers_in(image, p);
-    if !is_sound(&pointers, p) {
+    let map = Map::at(p.map).cells(image);
+    if !is_sound(map, p) {
         return Finding {
             verdict: Verdict::Refused(Refusal::UnsoundMap),
             exact: false,
         };
     }
-    let bytes = data_of(image, &pointers);
+    let bytes = data_of(image, map);
     found_in(&bytes)
 }
 

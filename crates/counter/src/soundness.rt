@@ -3,10 +3,13 @@ ghost use mathlib.Core.Path.{_≡_};
 ghost use mathlib.Core.Bool.{true, not};
 ghost use Prim.Native.Nat.{ℕ, _+_, _≤_, _<_, _%_};
 ghost use lib.Dec.{eqb};
+ghost use lib.ListN.{length};
 ghost use Rattle.counter.specs.Slots.{two, kindOf, every};
-ghost use Rattle.counter.specs.Map.{listed, sound};
+ghost use Rattle.counter.specs.Map.{pointerOf, sound};
 ghost use Rattle.counter.specs.Spares.{gapTo, mayTry};
 use super::map::Map;
+use super::map::low_byte_of;
+use super::map::pointer_of;
 use super::places::Places;
 use super::spares::may_try;
 use super::spares::narrowed;
@@ -23,14 +26,15 @@ fn lower(a: usize, b: usize) -> usize
 }
 
 // A number at most 256 and at most every Low pointer, or 0 where one is past the area's end.
-fn low_border(pointers: &[usize; 16], p: Places) -> usize
-    ensures { λ r. ⌜ (0 < r → (r ≤ 256) × ((n : ℕ) → n < 3 → (r ≤ listed (now (pointers .entry)) n) × (listed (now (pointers .entry)) n ≤ p .end) × (r ≤ listed (now (pointers .entry)) (8 + n)) × (listed (now (pointers .entry)) (8 + n) ≤ p .end))) ⌝ }
+fn low_border(map: &[u8], p: Places) -> usize
+    requires { ⌜ length (now map) ≡ 24 ⌝ }
+    ensures { λ r. ⌜ (0 < r → (r ≤ 256) × ((n : ℕ) → n < 3 → (r ≤ pointerOf (now (map .entry)) n) × (pointerOf (now (map .entry)) n ≤ p .end) × (r ≤ pointerOf (now (map .entry)) (8 + n)) × (pointerOf (now (map .entry)) (8 + n) ≤ p .end))) ⌝ }
 {
     let mut border = 256;
     let mut n = 0;
     while n < 3 {
-        let a = pointers[n];
-        let b = pointers[8 + n];
+        let a = pointer_of(map, n);
+        let b = pointer_of(map, 8 + n);
         if p.end < a {
             return 0;
         }
@@ -44,13 +48,14 @@ fn low_border(pointers: &[usize; 16], p: Places) -> usize
 }
 
 // Whether every High pointer is in the area and below a border.
-fn highs_below(pointers: &[usize; 16], p: Places, border: usize) -> bool
-    ensures { λ r. ⌜ (r ≡ true → (n : ℕ) → 3 ≤ n → n < 8 → (p .start ≤ listed (now (pointers .entry)) n) × (listed (now (pointers .entry)) n < border) × (p .start ≤ listed (now (pointers .entry)) (8 + n)) × (listed (now (pointers .entry)) (8 + n) < border)) ⌝ }
+fn highs_below(map: &[u8], p: Places, border: usize) -> bool
+    requires { ⌜ length (now map) ≡ 24 ⌝ }
+    ensures { λ r. ⌜ (r ≡ true → (n : ℕ) → 3 ≤ n → n < 8 → (p .start ≤ pointerOf (now (map .entry)) n) × (pointerOf (now (map .entry)) n < border) × (p .start ≤ pointerOf (now (map .entry)) (8 + n)) × (pointerOf (now (map .entry)) (8 + n) < border)) ⌝ }
 {
     let mut n = 3;
     while n < 8 {
-        let a = pointers[n];
-        let b = pointers[8 + n];
+        let a = pointer_of(map, n);
+        let b = pointer_of(map, 8 + n);
         if a < p.start {
             return false;
         }
@@ -70,18 +75,18 @@ fn highs_below(pointers: &[usize; 16], p: Places, border: usize) -> bool
 
 // Whether each pointer could be tried after those before it: then all are in the area, High ones at most
 // 255, and every High one below every Low one.
-fn in_order(pointers: &[usize; 16], p: Places) -> bool
-    requires { ⌜ p .end < 4096 ⌝ }
-    ensures { λ r. ⌜ r ≡ every 16 (λ k. mayTry p (kindOf k) (gapTo k p (listed (now (pointers .entry)))) (listed (now (pointers .entry)) k)) ⌝ }
+fn in_order(map: &[u8], p: Places) -> bool
+    requires { ⌜ (length (now map) ≡ 24) × (p .end < 4096) ⌝ }
+    ensures { λ r. ⌜ r ≡ every 16 (λ k. mayTry p (kindOf k) (gapTo k p (pointerOf (now (map .entry)))) (pointerOf (now (map .entry)) k)) ⌝ }
 {
-    let border = low_border(pointers, p);
-    if highs_below(pointers, p, border) {
+    let border = low_border(map, p);
+    if highs_below(map, p, border) {
         return true;
     }
     let mut gap = whole_area(p);
     let mut slot = 0;
     while slot < Map::SLOTS {
-        let a = pointers[slot];
+        let a = pointer_of(map, slot);
         if !may_try(p, slot, gap, a) {
             return false;
         }
@@ -92,13 +97,14 @@ fn in_order(pointers: &[usize; 16], p: Places) -> bool
 }
 
 // Whether no two pointers have the same low byte: the quick way to see that all differ.
-fn spread(pointers: &[usize; 16]) -> bool
-    ensures { λ r. ⌜ (r ≡ true → (i j : ℕ) → i < j → j < 16 → listed (now (pointers .entry)) i % 256 ≡ listed (now (pointers .entry)) j % 256 → ⊥) ⌝ }
+fn spread(map: &[u8]) -> bool
+    requires { ⌜ length (now map) ≡ 24 ⌝ }
+    ensures { λ r. ⌜ (r ≡ true → (i j : ℕ) → i < j → j < 16 → pointerOf (now (map .entry)) i % 256 ≡ pointerOf (now (map .entry)) j % 256 → ⊥) ⌝ }
 {
     let mut seen = [0u8; 256];
     let mut slot = 0;
     while slot < Map::SLOTS {
-        let low = pointers[slot] % 256;
+        let low = low_byte_of(map, slot);
         if seen[low] != 0 {
             return false;
         }
@@ -109,14 +115,14 @@ fn spread(pointers: &[usize; 16]) -> bool
 }
 
 // Whether a slot's pointer is none of those before it.
-fn is_new(pointers: &[usize; 16], slot: usize) -> bool
-    requires { ⌜ slot < 16 ⌝ }
-    ensures { λ r. ⌜ r ≡ every slot (λ i. not (eqb (listed (now (pointers .entry)) i) (listed (now (pointers .entry)) slot))) ⌝ }
+fn is_new(map: &[u8], slot: usize) -> bool
+    requires { ⌜ (length (now map) ≡ 24) × (slot < 16) ⌝ }
+    ensures { λ r. ⌜ r ≡ every slot (λ i. not (eqb (pointerOf (now (map .entry)) i) (pointerOf (now (map .entry)) slot))) ⌝ }
 {
-    let a = pointers[slot];
+    let a = pointer_of(map, slot);
     let mut i = 0;
     while i < slot {
-        if pointers[i] == a {
+        if pointer_of(map, i) == a {
             return false;
         }
         i += 1;
@@ -125,15 +131,16 @@ fn is_new(pointers: &[usize; 16], slot: usize) -> bool
 }
 
 // Whether all pointers are different.
-fn all_differ(pointers: &[usize; 16]) -> bool
-    ensures { λ r. ⌜ r ≡ every 16 (λ j. every j (λ i. not (eqb (listed (now (pointers .entry)) i) (listed (now (pointers .entry)) j)))) ⌝ }
+fn all_differ(map: &[u8]) -> bool
+    requires { ⌜ length (now map) ≡ 24 ⌝ }
+    ensures { λ r. ⌜ r ≡ every 16 (λ j. every j (λ i. not (eqb (pointerOf (now (map .entry)) i) (pointerOf (now (map .entry)) j)))) ⌝ }
 {
-    if spread(pointers) {
+    if spread(map) {
         return true;
     }
     let mut slot = 0;
     while slot < Map::SLOTS {
-        if !is_new(pointers, slot) {
+        if !is_new(map, slot) {
             return false;
         }
         slot += 1;
@@ -142,12 +149,12 @@ fn all_differ(pointers: &[usize; 16]) -> bool
 }
 
 // Whether the pointers are sound.
-pub fn is_sound(pointers: &[usize; 16], p: Places) -> bool
-    requires { ⌜ p .end < 4096 ⌝ }
-    ensures { λ r. ⌜ r ≡ sound two p (listed (now (pointers .entry))) ⌝ }
+pub fn is_sound(map: &[u8], p: Places) -> bool
+    requires { ⌜ (length (now map) ≡ 24) × (p .end < 4096) ⌝ }
+    ensures { λ r. ⌜ r ≡ sound two p (pointerOf (now (map .entry))) ⌝ }
 {
-    if !in_order(pointers, p) {
+    if !in_order(map, p) {
         return false;
     }
-    all_differ(pointers)
+    all_differ(map)
 }

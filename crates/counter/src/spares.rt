@@ -1,11 +1,12 @@
 // The cells not yet taken (document 01, "The map").
 ghost use mathlib.Core.Path.{_≡_};
-ghost use Prim.Native.Nat.{ℕ, _+_, _<_, _^_};
-ghost use lib.ListN.{getD};
+ghost use Prim.Native.Nat.{_<_};
+ghost use lib.ListN.{length};
 ghost use Rattle.counter.specs.Slots.{two, kindOf};
-ghost use Rattle.counter.specs.Map.{listed};
+ghost use Rattle.counter.specs.Map.{pointerOf};
 ghost use Rattle.counter.specs.Spares.{wholeArea, narrow, gapOf, mayTry};
 use super::map::Map;
+use super::map::pointer_of;
 use super::places::Places;
 
 // The next High address, and the lowest Low pointer: the cell past the area's end before any is taken.
@@ -68,14 +69,14 @@ pub fn may_try(p: Places, slot: usize, g: Gap, a: usize) -> bool
 }
 
 // The gap that the pointers of all slots leave.
-pub fn gap_of(pointers: &[usize; 16], p: Places) -> Gap
-    requires { ⌜ (p .end < 4096) × ((k : ℕ) → k < 16 → getD (now pointers) k 0 < 65536) ⌝ }
-    ensures { λ r. ⌜ r ≡ gapOf two p (listed (now (pointers .entry))) ⌝ }
+pub fn gap_of(map: &[u8], p: Places) -> Gap
+    requires { ⌜ (length (now map) ≡ 24) × (p .end < 4096) ⌝ }
+    ensures { λ r. ⌜ r ≡ gapOf two p (pointerOf (now (map .entry))) ⌝ }
 {
     let mut gap = whole_area(p);
     let mut slot = 0;
     while slot < Map::SLOTS {
-        gap = narrowed(slot, pointers[slot], gap);
+        gap = narrowed(slot, pointer_of(map, slot), gap);
         slot += 1;
     }
     gap

@@ -13,7 +13,6 @@ ghost use Rattle.counter.specs.Store.{mapped, putPointer, trySpares, mov
 use super::map::Map;
 use super::map::offset_of;
 use super::map::pointer_of;
-use super::map::pointers_of;
 use super::places::Places;
 use super::spares::Gap;
 use super::spares::gap_of;
@@ -94,10 +93,7 @@ fn move_slot(image: &mut [u8], lives: &mut [u32], p: Places, slot: usize, byte: 
     requires { ⌜ (fitted two p (chip (now image) (now lives)) ≡ true) × (sound two p (pointerOf (mapIn two p (now image))) ≡ true) × (slot < 16) ⌝ }
     ensures { λ r. ⌜ seen (r .work) (r .writes) (r .tried) (chip (now (image .exit)) (now (lives .exit))) ≡ view (moveSlot two p slot byte (chip (now (image .entry)) (now (lives .entry)))) ⌝ }
 {
-    let from = p.map;
-    let to = from + Map::SIZE;
-    let pointers = pointers_of(&image[from..to]);
-    let gap = gap_of(&pointers, p);
+    let gap = gap_of(Map::at(p.map).cells(image), p);
     let walked = try_spares(image, lives, slot, gap, byte);
     let found = walked.found;
     match found {

@@ -1,30 +1,38 @@
 -- `doors::part_verdict` meets its contract.
 use mathlib.Core.Path.{_≡_, sym, _∙_}
 use borrow.Author.Tests.{le-leb, lt-leb, not-true, not-false}
+use borrow.Author.Needs.{needs}
 use native.Mathlib.Omega.{arith}
 use Rattle.counter.specs.Slots.{two}
 use Rattle.counter.specs.Map.{mapIn, pointerOf, sound}
 use Rattle.counter.specs.Doors.{partVerdict}
 use Rattle.counter.proofs.Settings.{good-placed, length-good}
-use Rattle.counter.proofs.SoundPointers.{sound-agree}
+use Rattle.counter.proofs.MapBytes.{map-whole}
 use Rattle.counter.proofs.Standings.{stands-marked, guard-marked}
 use Rattle.counter.proofs.doors.part_verdict.Statement.{statement}
 use Rattle.counter.proofs.doors.part_verdict.Tie as tie
 
-pointers-in-requires : tie.Need-pointers-in-requires
-pointers-in-requires c κs = stands-marked two _ _ (c .before .pre) .1
+at-requires : tie.Need-at-requires
+at-requires c κs = search needs
+
+cells-requires : tie.Need-cells-requires
+cells-requires c κs = let placed = good-placed two _ _ (stands-marked two _ _ (c .before .before .pre) .1) in omega arith
+
+-- the cells are the map
+map : (c : tie.After-cells) → let s = c .before .before .before .args in c .cells .result .now ≡ mapIn two (s .p) (s .image .now)
+map c = rw (← c .before .at .ensures) (c .cells .ensures)
 
 is-sound-requires : tie.Need-is-sound-requires
 is-sound-requires c κs =
     let facts = stands-marked two _ _ (c .before .before .before .pre) in
     let placed = good-placed two _ _ (facts .1) in
     let long = length-good two _ (facts .0) in
-    omega arith
+    (rw (map c) (map-whole _ placed), omega arith)
 
 -- what was tested of the map
 tested : (c : tie.After-is-sound) → let s = c .before .before .before .before .args in
     sound two (s .p) (pointerOf (mapIn two (s .p) (s .image .now))) ≡ c .is-sound .result
-tested c = sym (c .is-sound .ensures ∙ sound-agree two _ _ _ (c .before .before .pointers-in .ensures))
+tested c = rw (← map (c .before)) (sym (c .is-sound .ensures))
 
 returns : tie.Need-returns
 unfolding partVerdict
@@ -58,4 +66,4 @@ returns-4 c =
 pub part-verdict-spec : {M : Type 1} → statement M
 part-verdict-spec =
     tie.close
-    (tie.spec pointers-in-requires is-sound-requires returns returns-2 returns-3 returns-4)
+    (tie.spec at-requires cells-requires is-sound-requires returns returns-2 returns-3 returns-4)

@@ -1,37 +1,36 @@
 -- `reading::data_of` meets its contract: the slots passed have their bytes.
 use Prim.Native.Nat.{ℕ, _-_, _≤_, _<_}
-use mathlib.Core.Path.{_≡_, refl}
+use mathlib.Core.Path.{_≡_, refl, ap}
 use borrow.Author.Needs.{needs}
 use native.Mathlib.Omega.{arith}
 use lib.ListN.{length, getD, length-set}
+use Rattle.counter.specs.Map.{listed}
+use Rattle.counter.specs.Reading.{dataAt}
 use Rattle.code.proofs.Filled.{all-set}
 use Rattle.counter.proofs.reading.data_of.Statement.{statement}
 use Rattle.counter.proofs.reading.data_of.Tie as tie
 
 abbrev Inv-loop : tie.InvT-loop
-Inv-loop image pointers data₀ slot₀ «data» slot =
+Inv-loop image map data₀ slot₀ «data» slot =
     record {
       most : slot ≤ 16;
       size : length «data» ≡ 16;
-      each : (k : ℕ) → k < slot → getD «data» k 0 ≡ getD image (getD pointers k 0) 0;
+      each : (k : ℕ) → k < slot → listed «data» k ≡ dataAt image map k;
     }
 
 abbrev μ-loop : tie.MeasureT-loop
-μ-loop image pointers data₀ slot₀ «data» slot = 16 - slot
+μ-loop image map data₀ slot₀ «data» slot = 16 - slot
 
 loop-holds : tie.Need-loop-holds Inv-loop μ-loop
 loop-holds c = record { most = omega arith; size = refl; each = λ k l. absurd (omega arith) }
 
-mul-data : tie.Need-mul-data Inv-loop μ-loop
-mul-data c = search needs
-
-element-copy-out-data : tie.Need-element-copy-out-data Inv-loop μ-loop
-element-copy-out-data c = search needs
+pointer-of-requires : tie.Need-pointer-of-requires Inv-loop μ-loop
+pointer-of-requires c κs = search needs
 
 shared-slice-read-data : tie.Need-shared-slice-read-data Inv-loop μ-loop
 shared-slice-read-data c =
-    let loop = c .before .before .before .loop in
-    c .before .before .before .before .pre (loop .slot) (omega arith)
+    let slot = c .before .before .before .loop .slot in
+    rw (c .before .pointer-of .ensures .0) (c .before .before .before .before .before .before .pre .1 slot (omega arith))
 
 array-write-data : tie.Need-array-write-data Inv-loop μ-loop
 array-write-data c = omega arith
@@ -45,13 +44,13 @@ loop-less c = search needs
 loop-again : tie.Need-loop-again Inv-loop μ-loop
 loop-again c =
     let loop = c .before .before .before .loop in
-    let s = c .before .before .before .before .args in
+    let s = c .before .before .before .before .before .before .args in
     record {
       most = omega arith;
       size = simp length-set (loop .inv .size);
       each =
-          all-set (λ k x. x ≡ getD (s .image .now) (getD (s .pointers .now) k 0) 0) (loop .«data») (loop .slot) _ (omega arith) (loop .inv .each)
-          refl;
+          all-set (λ k x. x ≡ dataAt (s .image .now) (s .map .now) k) (loop .«data») (loop .slot) _ (omega arith) (loop .inv .each)
+          (ap (λ a. getD (s .image .now) a 0) (c .before .pointer-of .ensures .0));
     }
 
 returns : tie.Need-returns Inv-loop μ-loop
@@ -64,8 +63,7 @@ data-of-spec =
     Inv-loop
     μ-loop
     loop-holds
-    mul-data
-    element-copy-out-data
+    pointer-of-requires
     shared-slice-read-data
     array-write-data
     add-slot

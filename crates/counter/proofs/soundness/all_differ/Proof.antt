@@ -7,20 +7,20 @@ use borrow.Author.Tests.{ne-eqb, not-true, not-false}
 use native.Mathlib.Omega.{arith}
 use lib.Dec.{eqb}
 use Rattle.counter.specs.Slots.{every}
-use Rattle.counter.specs.Map.{listed}
+use Rattle.counter.specs.Map.{pointerOf}
 use Rattle.counter.proofs.RangeTests.{all-every, every-more, every-not}
 use Rattle.counter.proofs.soundness.all_differ.Statement.{statement}
 use Rattle.counter.proofs.soundness.all_differ.Tie as tie
 
 abbrev Inv-loop : tie.InvT-loop
-Inv-loop pointers slot₀ slot =
+Inv-loop map slot₀ slot =
     record {
       most : slot ≤ 16;
-      all : every slot (λ j. every j (λ i. not (eqb (listed pointers i) (listed pointers j)))) ≡ true;
+      all : every slot (λ j. every j (λ i. not (eqb (pointerOf map i) (pointerOf map j)))) ≡ true;
     }
 
 abbrev μ-loop : tie.MeasureT-loop
-μ-loop pointers slot₀ slot = 16 - slot
+μ-loop map slot₀ slot = 16 - slot
 
 spread-requires : tie.Need-spread-requires Inv-loop μ-loop
 spread-requires c κs = search needs

@@ -2,40 +2,34 @@
 use Prim.Native.Nat.{ℕ, _+_, _-_, _≤_, _<_}
 use native.Mathlib.Omega.{arith}
 use borrow.Author.Count.{below-more}
-use Rattle.counter.specs.Map.{listed}
+use Rattle.counter.specs.Map.{pointerOf}
 use Rattle.counter.proofs.RangeTests.{no-claim}
 use borrow.Author.Needs.{needs}
 use Rattle.counter.proofs.soundness.highs_below.Statement.{statement}
 use Rattle.counter.proofs.soundness.highs_below.Tie as tie
 
 abbrev Inv-loop : tie.InvT-loop
-Inv-loop pointers p border n₀ n =
+Inv-loop map p border n₀ n =
     record {
       least : 3 ≤ n;
       most : n ≤ 8;
-      each : (k : ℕ) → k < n → 3 ≤ k → (p .start ≤ listed pointers k) × (listed pointers k < border) × (p .start ≤ listed pointers (8 + k)) × (listed pointers (8 + k) < border);
+      each : (k : ℕ) → k < n → 3 ≤ k → (p .start ≤ pointerOf map k) × (pointerOf map k < border) × (p .start ≤ pointerOf map (8 + k)) × (pointerOf map (8 + k) < border);
     }
 
 abbrev μ-loop : tie.MeasureT-loop
-μ-loop pointers p border n₀ n = 8 - n
+μ-loop map p border n₀ n = 8 - n
 
 loop-holds : tie.Need-loop-holds Inv-loop μ-loop
 loop-holds c = record { least = omega arith; most = omega arith; each = λ k l m. absurd (omega arith) }
 
-mul-a : tie.Need-mul-a Inv-loop μ-loop
-mul-a c = search needs
+pointer-of-requires : tie.Need-pointer-of-requires Inv-loop μ-loop
+pointer-of-requires c κs = search needs
 
-element-copy-out-a : tie.Need-element-copy-out-a Inv-loop μ-loop
-element-copy-out-a c = search needs
+add-pointer-of : tie.Need-add-pointer-of Inv-loop μ-loop
+add-pointer-of c = search needs
 
-add-b : tie.Need-add-b Inv-loop μ-loop
-add-b c = search needs
-
-mul-b : tie.Need-mul-b Inv-loop μ-loop
-mul-b c = search needs
-
-element-copy-out-b : tie.Need-element-copy-out-b Inv-loop μ-loop
-element-copy-out-b c = search needs
+pointer-of-requires-2 : tie.Need-pointer-of-requires-2 Inv-loop μ-loop
+pointer-of-requires-2 c κs = search needs
 
 returns : tie.Need-returns Inv-loop μ-loop
 returns c = λ e. no-claim e
@@ -58,15 +52,17 @@ loop-less c = search needs
 loop-again : tie.Need-loop-again Inv-loop μ-loop
 loop-again c =
     let loop = c .before .before .before .before .before .before .before .before .before .loop in
-    let s = c .before .before .before .before .before .before .before .before .before .before .args in
-    let pointers = s .pointers .now in
+    let s = c .before .before .before .before .before .before .before .before .before .before .before .args in
+    let map = s .map .now in
+    let a = c .before .before .before .before .before .before .before .pointer-of .ensures .0 in
+    let b = c .before .before .before .before .before .before .pointer-of2 .ensures .0 in
     record {
       least = let h = loop .inv .least in omega arith;
       most = omega arith;
       each =
-          below-more (λ k. 3 ≤ k → (s .p .start ≤ listed pointers k) × (listed pointers k < s .border) × (s .p .start ≤ listed pointers (8 + k)) × (listed pointers (8 + k) < s .border)) (loop .n)
+          below-more (λ k. 3 ≤ k → (s .p .start ≤ pointerOf map k) × (pointerOf map k < s .border) × (s .p .start ≤ pointerOf map (8 + k)) × (pointerOf map (8 + k) < s .border)) (loop .n)
           (loop .inv .each)
-          (λ m. (omega (arith, c .before .before .before .before .if1 .left), omega (arith, c .before .before .before .if2 .left), omega (arith, c .before .if3 .left), omega (arith, c .if4 .left)));
+          (λ m. (omega (arith, a, c .before .before .before .before .if1 .left), omega (arith, a, c .before .before .before .if2 .left), omega (arith, b, c .before .if3 .left), omega (arith, b, c .if4 .left)));
     }
 
 returns-5 : tie.Need-returns-5 Inv-loop μ-loop
@@ -79,11 +75,9 @@ highs-below-spec =
     Inv-loop
     μ-loop
     loop-holds
-    mul-a
-    element-copy-out-a
-    add-b
-    mul-b
-    element-copy-out-b
+    pointer-of-requires
+    add-pointer-of
+    pointer-of-requires-2
     returns
     returns-2
     returns-3

@@ -1,30 +1,29 @@
 -- `soundness::in_order` meets its contract: each of the slots passed could be tried, and the gap is what they leave.
 use Prim.Native.Nat.{_-_, _≤_}
-use mathlib.Core.Path.{_≡_, refl, sym, ap, _∙_}
+use mathlib.Core.Path.{_≡_, refl, sym, _∙_}
 use mathlib.Core.Bool.{true}
 use borrow.Author.Needs.{needs}
 use borrow.Author.Tests.{not-true, not-false}
 use native.Mathlib.Omega.{arith}
 use Rattle.counter.specs.Slots.{kindOf, every}
-use Rattle.counter.specs.Map.{listed}
-use Rattle.counter.specs.Spares.{narrow, gapTo, mayTry}
+use Rattle.counter.specs.Map.{pointerOf}
+use Rattle.counter.specs.Spares.{gapTo, mayTry}
 use Rattle.counter.proofs.RangeTests.{every-more, every-not}
 use Rattle.counter.proofs.Gaps.{gap-more}
-use Rattle.counter.proofs.MayTry.{tried-facts}
 use Rattle.counter.proofs.SoundByTries.{border-tries}
 use Rattle.counter.proofs.soundness.in_order.Statement.{statement}
 use Rattle.counter.proofs.soundness.in_order.Tie as tie
 
 abbrev Inv-loop : tie.InvT-loop
-Inv-loop pointers p border gap₀ slot₀ gap slot =
+Inv-loop map p border gap₀ slot₀ gap slot =
     record {
       most : slot ≤ 16;
-      left : gap ≡ gapTo slot p (listed pointers);
-      all : every slot (λ k. mayTry p (kindOf k) (gapTo k p (listed pointers)) (listed pointers k)) ≡ true;
+      left : gap ≡ gapTo slot p (pointerOf map);
+      all : every slot (λ k. mayTry p (kindOf k) (gapTo k p (pointerOf map)) (pointerOf map k)) ≡ true;
     }
 
 abbrev μ-loop : tie.MeasureT-loop
-μ-loop pointers p border gap₀ slot₀ gap slot = 16 - slot
+μ-loop map p border gap₀ slot₀ gap slot = 16 - slot
 
 low-border-requires : tie.Need-low-border-requires Inv-loop μ-loop
 low-border-requires c κs = search needs
@@ -42,11 +41,8 @@ loop-holds : tie.Need-loop-holds Inv-loop μ-loop
 unfolding every gapTo
 loop-holds c = record { most = omega arith; left = c .whole-area .ensures; all = refl }
 
-mul-a : tie.Need-mul-a Inv-loop μ-loop
-mul-a c = search needs
-
-element-copy-out-a : tie.Need-element-copy-out-a Inv-loop μ-loop
-element-copy-out-a c = search needs
+pointer-of-requires : tie.Need-pointer-of-requires Inv-loop μ-loop
+pointer-of-requires c κs = search needs
 
 may-try-requires : tie.Need-may-try-requires Inv-loop μ-loop
 may-try-requires c κs = search needs
@@ -54,9 +50,9 @@ may-try-requires c κs = search needs
 -- what was tested, by the invariant
 tested : (c : tie.After-may-try Inv-loop μ-loop)
     → let loop = c .before .before .before .loop in
-    let s = c .before .before .before .before .before .before .before .before .args in
-    mayTry (s .p) (kindOf (loop .slot)) (gapTo (loop .slot) (s .p) (listed (s .pointers .now))) (listed (s .pointers .now) (loop .slot)) ≡ c .may-try .result
-tested c = rw (← c .before .before .before .loop .inv .left) (sym (c .may-try .ensures))
+    let s = c .before .before .before .before .before .before .before .before .before .args in
+    mayTry (s .p) (kindOf (loop .slot)) (gapTo (loop .slot) (s .p) (pointerOf (s .map .now))) (pointerOf (s .map .now) (loop .slot)) ≡ c .may-try .result
+tested c = rw (← c .before .before .before .loop .inv .left, ← c .before .pointer-of .ensures .0) (sym (c .may-try .ensures))
 
 returns-2 : tie.Need-returns-2 Inv-loop μ-loop
 returns-2 c =
@@ -64,9 +60,7 @@ returns-2 c =
     sym (every-not _ _ (loop .slot) (c .before .before .before .loop-test .taken) (tested (c .before) ∙ not-true _ (c .if2 .taken)))
 
 narrowed-requires : tie.Need-narrowed-requires Inv-loop μ-loop
-narrowed-requires c κs =
-    let may = tried-facts _ _ _ _ (tested (c .before) ∙ not-false _ (c .if2 .left)) in
-    omega arith
+narrowed-requires c κs = c .before .before .pointer-of .ensures .1
 
 add-slot : tie.Need-add-slot Inv-loop μ-loop
 add-slot c = search needs
@@ -79,7 +73,7 @@ loop-again c =
     let loop = c .before .before .before .before .before .loop in
     record {
       most = omega arith;
-      left = c .narrowed .ensures ∙ ap (narrow _ _) (loop .inv .left) ∙ gap-more _ _ _;
+      left = c .narrowed .ensures ∙ rw (c .before .before .before .pointer-of .ensures .0, loop .inv .left) (gap-more _ _ _);
       all = every-more (loop .slot) _ (loop .inv .all) (tested (c .before .before) ∙ not-false _ (c .before .if2 .left));
     }
 
@@ -100,8 +94,7 @@ in-order-spec =
     returns
     whole-area-requires
     loop-holds
-    mul-a
-    element-copy-out-a
+    pointer-of-requires
     may-try-requires
     returns-2
     narrowed-requires

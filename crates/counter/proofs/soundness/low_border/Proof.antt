@@ -2,39 +2,33 @@
 use Prim.Native.Nat.{ℕ, _+_, _-_, _≤_, _<_}
 use native.Mathlib.Omega.{arith}
 use borrow.Author.Count.{below-more}
-use Rattle.counter.specs.Map.{listed}
+use Rattle.counter.specs.Map.{pointerOf}
 use borrow.Author.Needs.{needs}
 use Rattle.counter.proofs.soundness.low_border.Statement.{statement}
 use Rattle.counter.proofs.soundness.low_border.Tie as tie
 
 abbrev Inv-loop : tie.InvT-loop
-Inv-loop pointers p border₀ n₀ border n =
+Inv-loop map p border₀ n₀ border n =
     record {
       most : n ≤ 3;
       top : border ≤ 256;
-      each : (k : ℕ) → k < n → (border ≤ listed pointers k) × (listed pointers k ≤ p .end) × (border ≤ listed pointers (8 + k)) × (listed pointers (8 + k) ≤ p .end);
+      each : (k : ℕ) → k < n → (border ≤ pointerOf map k) × (pointerOf map k ≤ p .end) × (border ≤ pointerOf map (8 + k)) × (pointerOf map (8 + k) ≤ p .end);
     }
 
 abbrev μ-loop : tie.MeasureT-loop
-μ-loop pointers p border₀ n₀ border n = 3 - n
+μ-loop map p border₀ n₀ border n = 3 - n
 
 loop-holds : tie.Need-loop-holds Inv-loop μ-loop
 loop-holds c = record { most = omega arith; top = omega arith; each = λ k l. absurd (omega arith) }
 
-mul-a : tie.Need-mul-a Inv-loop μ-loop
-mul-a c = search needs
+pointer-of-requires : tie.Need-pointer-of-requires Inv-loop μ-loop
+pointer-of-requires c κs = search needs
 
-element-copy-out-a : tie.Need-element-copy-out-a Inv-loop μ-loop
-element-copy-out-a c = search needs
+add-pointer-of : tie.Need-add-pointer-of Inv-loop μ-loop
+add-pointer-of c = search needs
 
-add-b : tie.Need-add-b Inv-loop μ-loop
-add-b c = search needs
-
-mul-b : tie.Need-mul-b Inv-loop μ-loop
-mul-b c = search needs
-
-element-copy-out-b : tie.Need-element-copy-out-b Inv-loop μ-loop
-element-copy-out-b c = search needs
+pointer-of-requires-2 : tie.Need-pointer-of-requires-2 Inv-loop μ-loop
+pointer-of-requires-2 c κs = search needs
 
 returns : tie.Need-returns Inv-loop μ-loop
 returns c = λ h. absurd (omega arith)
@@ -57,17 +51,19 @@ loop-less c = search needs
 loop-again : tie.Need-loop-again Inv-loop μ-loop
 loop-again c =
     let loop = c .before .before .before .before .before .before .before .before .before .loop in
-    let s = c .before .before .before .before .before .before .before .before .before .before .args in
-    let pointers = s .pointers .now in
+    let s = c .before .before .before .before .before .before .before .before .before .before .before .args in
+    let map = s .map .now in
+    let a = c .before .before .before .before .before .before .before .pointer-of .ensures .0 in
+    let b = c .before .before .before .before .before .before .pointer-of2 .ensures .0 in
     let one = c .before .lower .ensures in
     let other = c .lower2 .ensures in
     record {
       most = omega arith;
       top = let h = loop .inv .top in omega arith;
       each =
-          below-more (λ k. (c .lower2 .result ≤ listed pointers k) × (listed pointers k ≤ s .p .end) × (c .lower2 .result ≤ listed pointers (8 + k)) × (listed pointers (8 + k) ≤ s .p .end)) (loop .n)
+          below-more (λ k. (c .lower2 .result ≤ pointerOf map k) × (pointerOf map k ≤ s .p .end) × (c .lower2 .result ≤ pointerOf map (8 + k)) × (pointerOf map (8 + k) ≤ s .p .end)) (loop .n)
           (λ k l. let h = loop .inv .each k l in (omega (arith, h .0, one .0, other .0), h .1, omega (arith, h .2, one .0, other .0), h .3))
-          (omega (arith, one .1, other .0), omega (arith, c .before .before .before .before .if1 .left), omega (arith, other .1), omega (arith, c .before .before .if2 .left));
+          (omega (arith, a, one .1, other .0), omega (arith, a, c .before .before .before .before .if1 .left), omega (arith, b, other .1), omega (arith, b, c .before .before .if2 .left));
     }
 
 returns-3 : tie.Need-returns-3 Inv-loop μ-loop
@@ -80,11 +76,9 @@ low-border-spec =
     Inv-loop
     μ-loop
     loop-holds
-    mul-a
-    element-copy-out-a
-    add-b
-    mul-b
-    element-copy-out-b
+    pointer-of-requires
+    add-pointer-of
+    pointer-of-requires-2
     returns
     returns-2
     lower-requires

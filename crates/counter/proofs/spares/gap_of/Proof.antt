@@ -4,18 +4,18 @@ use mathlib.Core.Path.{_≡_, ap, _∙_}
 use borrow.Author.Needs.{needs}
 use native.Mathlib.Omega.{arith}
 use Rattle.counter.specs.declared.places.Places.{Places}
-use Rattle.counter.specs.Map.{listed}
-use Rattle.counter.specs.Spares.{wholeArea, narrow, gapTo, gapOf}
+use Rattle.counter.specs.Map.{pointerOf}
+use Rattle.counter.specs.Spares.{wholeArea, gapTo, gapOf}
 use Rattle.counter.proofs.Gaps.{gap-more}
 use Rattle.counter.proofs.spares.gap_of.Statement.{statement}
 use Rattle.counter.proofs.spares.gap_of.Tie as tie
 
 abbrev Inv-loop : tie.InvT-loop
-Inv-loop pointers gap₀ slot₀ gap slot =
-    record { most : slot ≤ 16; left : (p : Places) → gap₀ ≡ wholeArea p → gap ≡ gapTo slot p (listed pointers) }
+Inv-loop map gap₀ slot₀ gap slot =
+    record { most : slot ≤ 16; left : (p : Places) → gap₀ ≡ wholeArea p → gap ≡ gapTo slot p (pointerOf map) }
 
 abbrev μ-loop : tie.MeasureT-loop
-μ-loop pointers gap₀ slot₀ gap slot = 16 - slot
+μ-loop map gap₀ slot₀ gap slot = 16 - slot
 
 whole-area-requires : tie.Need-whole-area-requires Inv-loop μ-loop
 whole-area-requires c κs = search needs
@@ -24,14 +24,11 @@ loop-holds : tie.Need-loop-holds Inv-loop μ-loop
 unfolding gapTo
 loop-holds c = record { most = omega arith; left = λ p e. e }
 
-mul-narrowed : tie.Need-mul-narrowed Inv-loop μ-loop
-mul-narrowed c = search needs
-
-element-copy-out-narrowed : tie.Need-element-copy-out-narrowed Inv-loop μ-loop
-element-copy-out-narrowed c = search needs
+pointer-of-requires : tie.Need-pointer-of-requires Inv-loop μ-loop
+pointer-of-requires c κs = search needs
 
 narrowed-requires : tie.Need-narrowed-requires Inv-loop μ-loop
-narrowed-requires c κs = c .before .before .before .before .pre .1 (c .before .before .loop .slot) (omega arith)
+narrowed-requires c κs = c .pointer-of .ensures .1
 
 add-slot : tie.Need-add-slot Inv-loop μ-loop
 add-slot c = search needs
@@ -40,14 +37,16 @@ loop-less : tie.Need-loop-less Inv-loop μ-loop
 loop-less c = search needs
 
 loop-again : tie.Need-loop-again Inv-loop μ-loop
-loop-again c = record { most = omega arith; left = λ p e. c .narrowed .ensures ∙ ap (narrow _ _) (c .before .before .before .loop .inv .left p e) ∙ gap-more _ p _ }
+loop-again c =
+    let loop = c .before .before .before .loop in
+    record { most = omega arith; left = λ p e. c .narrowed .ensures ∙ rw (c .before .pointer-of .ensures .0, loop .inv .left p e) (gap-more _ p _) }
 
 returns : tie.Need-returns Inv-loop μ-loop
 unfolding gapOf
 returns c =
     let loop = c .before .loop in
     let end : loop .slot ≡ 16 = omega arith in
-    loop .inv .left _ (c .before .before .whole-area .ensures) ∙ ap (λ n. gapTo n (c .before .before .before .args .p) (listed (c .before .before .before .args .pointers .now))) end
+    loop .inv .left _ (c .before .before .whole-area .ensures) ∙ ap (λ n. gapTo n (c .before .before .before .before .args .p) (pointerOf (c .before .before .before .before .args .map .now))) end
 
 pub gap-of-spec : {M : Type 1} → statement M
 gap-of-spec =
@@ -57,8 +56,7 @@ gap-of-spec =
     μ-loop
     whole-area-requires
     loop-holds
-    mul-narrowed
-    element-copy-out-narrowed
+    pointer-of-requires
     narrowed-requires
     add-slot
     loop-less

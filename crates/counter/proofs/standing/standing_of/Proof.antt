@@ -1,15 +1,15 @@
 -- `standing::standing_of` meets its contract.
-use Prim.Native.Nat.{ℕ}
 use mathlib.Core.Path.{_≡_, sym, ap, _∙_}
 use mathlib.Core.Bool.{true}
 use borrow.Author.Tests.{not-true, not-false}
 use native.Mathlib.Omega.{arith}
-use lib.ListN.{length, take, drop, length-take, length-drop}
+use lib.ListN.{length}
 use Rattle.counter.specs.Slots.{two}
 use Rattle.counter.specs.Places.{lengthGood, placesGood}
 use Rattle.counter.specs.Map.{mapIn, marked}
 use Rattle.counter.specs.Standing.{standingOf}
 use Rattle.counter.proofs.Settings.{good-placed}
+use Rattle.counter.proofs.MapBytes.{map-whole}
 use borrow.Author.Needs.{needs}
 use Rattle.counter.proofs.standing.standing_of.Statement.{statement}
 use Rattle.counter.proofs.standing.standing_of.Tie as tie
@@ -45,14 +45,10 @@ cells-requires c κs = let good = good-placed two _ _ (placed (c .before)) in om
 -- the cells are the map
 map : (c : tie.After-cells) → let s = c .before .before .before .before .before .before .before .args in
     c .cells .result .now ≡ mapIn two (s .p) (s .image .now)
-map c =
-    let s = c .before .before .before .before .before .before .before .args in
-    c .cells .ensures ∙ ap (λ (m : ℕ). take 24 (drop m (s .image .now))) (c .before .at .ensures)
+map c = rw (← c .before .at .ensures) (c .cells .ensures)
 
 is-marked-requires : tie.Need-is-marked-requires
-is-marked-requires c κs =
-    let good = good-placed two _ _ (placed (c .before .before)) in
-    rw (map c) (simp (length-take, length-drop) (omega arith))
+is-marked-requires c κs = rw (map c) (map-whole _ (good-placed two _ _ (placed (c .before .before))))
 
 -- what was tested of the mark
 mark : (c : tie.After-is-marked) → let s = c .before .before .before .before .before .before .before .before .args in
