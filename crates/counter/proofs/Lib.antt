@@ -11,6 +11,7 @@ pub mod Fitted
 pub mod Pointers
 pub mod Tries
 pub mod Moves
+pub mod Written
 pub mod Stores
 pub mod StoreViews
 pub mod StoreCosts

@@ -1,10 +1,11 @@
 -- Storing the next count where the chip holds a count exactly: two slots change.
+--   step-changed              the code of a slot of the changed nibble changes
 --   step-stays                the code of a slot of another nibble stays
 --   held-passed               slots that hold their codes are passed over
 --   store-held                storing a count that all slots hold asks nothing and changes nothing
 --   store-holds               what a store that is done leaves
---   next-stopped, next-done   what is said of it, by what its first slot came to
---   next-stored               storing the next count is storing the changed nibble's slot in each copy
+--   next-stored, next-is      storing the next count is storing the changed nibble's slot in each copy
+--   next-other                those slots hold another byte
 use Prim.Native.Nat.{ℕ, zero, suc, _+_, _-_, _/_, _%_, _^_, _≤_, _<_}
 use mathlib.Core.Path.{_≡_, refl, sym, ap, _∙_}
 use mathlib.Core.Bool.{true}
@@ -14,15 +15,16 @@ use native.Mathlib.Omega.{arith}
 use Rattle.code.specs.Codes.{codeOf}
 use Rattle.code.specs.Gray.{grayOf, changedBit}
 use Rattle.code.specs.Nibbles.{nibbleOf}
-use Rattle.code.proofs.ChangeLaws.{step-nibble-small, step-nibble-others}
+use Rattle.code.proofs.NibbleLaws.{nibble-small}
+use Rattle.code.proofs.ReadingLaws.{code-injective}
+use Rattle.code.proofs.ChangeLaws.{step-nibble-small, step-nibble, step-nibble-others}
 use Rattle.cells.specs.Chip.{Chip}
-use Rattle.cells.specs.Run.{Run, Seen, seen, view, plus, still}
+use Rattle.cells.specs.Run.{Run, Seen, view, still}
 use Rattle.cells.proofs.Views.{said-answer, said-after}
 use Rattle.cells.proofs.Logs.{within-kept}
 use Rattle.counter.specs.declared.places.Places.{Places}
 use Rattle.counter.specs.declared.verdict.Work.{Work}
 use Rattle.counter.specs.declared.verdict.Work.the-variants.{Done, Stopped}
-use Rattle.counter.specs.declared.verdict.Refusal.{Refusal}
 use Rattle.counter.specs.Slots.{two, slots}
 use Rattle.counter.specs.Places.{fitted}
 use Rattle.counter.specs.Map.{sound}
@@ -33,11 +35,16 @@ use Rattle.counter.proofs.Ready.{pointers, dataOf, Ready, ready-kept}
 use Rattle.counter.proofs.Moves.{change, Moves, slot-there, slot-laws}
 use Rattle.counter.proofs.Fitted.{fitted-ready}
 use Rattle.counter.proofs.Stores.{done-then, stopped-then, store-laws}
-use Rattle.counter.proofs.OpeningViews.{said-done, said-stopped}
 
 -- the nibble that changes from c to c + 1
 abbrev pub changedNibble : ℕ → ℕ
 changedNibble c = changedBit (c + 1) / 4
+
+pub step-changed : (c : ℕ) → c + 1 < 2 ^ 32 → (k : ℕ) → k % 8 ≡ changedNibble c → slotCode c k ≡ slotCode (c + 1) k → ⊥
+unfolding slotCode
+step-changed c small k at e =
+    let same = code-injective _ _ (nibble-small (grayOf c) (k % 8)) (nibble-small (grayOf (c + 1)) (k % 8)) e in
+    step-nibble c small (sym (rw at at same))
 
 pub step-stays : (c : ℕ) → c + 1 < 2 ^ 32 → (k : ℕ) → (k % 8 ≡ changedNibble c → ⊥) → slotCode c k ≡ slotCode (c + 1) k
 unfolding slotCode
@@ -94,20 +101,20 @@ module _ (p : Places) (c : ℕ) (s : Chip) (small : c + 1 < 2 ^ 32) (ready : Rea
   abbrev nibble : ℕ
   nibble = changedNibble c
 
-  nibble-small : nibble < 8
-  nibble-small = step-nibble-small c small
+  low : nibble < 8
+  low = step-nibble-small c small
 
   -- the slots behind the second one that changes
   last : (t : Chip) → ((j : ℕ) → 8 + nibble < j → j < 16 → dataOf two p t j ≡ slotCode (c + 1) j) → storeFrom (7 - nibble) (8 + nibble + 1) two p (c + 1) t ≡ still Done t
   unfolding storeFrom
   last t there =
-      let h = nibble-small in
+      let h = low in
       ap (λ (n : ℕ). storeFrom n (8 + nibble + 1) two p (c + 1) t) (sym (add-zero (7 - nibble)))
       ∙ held-passed two p (c + 1) (7 - nibble) 0 (8 + nibble + 1) t (λ j l u. there j (omega arith) (omega arith))
 
   -- the code of every other slot is the same
   stays : (t : Chip) → ((j : ℕ) → j < 16 → (j ≡ nibble → ⊥) → dataOf two p t j ≡ dataOf two p s j) → (j : ℕ) → j < 16 → (j % 8 ≡ nibble → ⊥) → dataOf two p t j ≡ slotCode (c + 1) j
-  stays t kept j l other = kept j l (λ e. let h = nibble-small in other (omega arith)) ∙ held j l ∙ step-stays c small j other
+  stays t kept j l other = kept j l (λ e. let h = low in other (omega arith)) ∙ held j l ∙ step-stays c small j other
 
   -- the slots behind the first one that changes, once it is done
   behind : (t : Chip) → Ready two p t → Sound 16 p (pointers two p t)
@@ -115,7 +122,7 @@ module _ (p : Places) (c : ℕ) (s : Chip) (small : c + 1 < 2 ^ 32) (ready : Rea
       → storeFrom (15 - nibble) (nibble + 1) two p (c + 1) t ≡ next (8 + nibble) t
   unfolding storeFrom
   behind t fit well kept =
-      let h = nibble-small in
+      let h = low in
       let e : 15 - nibble ≡ 7 + suc (7 - nibble) = omega arith in
       let f : nibble + 1 + 7 ≡ 8 + nibble = omega arith in
       ap (λ (n : ℕ). storeFrom n (nibble + 1) two p (c + 1) t) e
@@ -126,14 +133,14 @@ module _ (p : Places) (c : ℕ) (s : Chip) (small : c + 1 < 2 ^ 32) (ready : Rea
     where
       after : next (8 + nibble) t .answer ≡ Done → (j : ℕ) → 8 + nibble < j → j < 16 → dataOf two p (next (8 + nibble) t .after) j ≡ slotCode (c + 1) j
       after d j l u =
-          let h = nibble-small in
+          let h = low in
           slot-laws fit well (8 + nibble) (omega arith) (slotCode (c + 1) (8 + nibble)) .settles d .kept j u (λ q. omega arith)
           ∙ stays t kept j u (λ q. omega arith)
 
   pub next-stored : store two p (c + 1) s ≡ next nibble s andThen next (8 + nibble)
   unfolding store storeFrom
   next-stored =
-      let h = nibble-small in
+      let h = low in
       let e : 16 ≡ nibble + suc (15 - nibble) = omega arith in
       ap (λ (n : ℕ). storeFrom n 0 two p (c + 1) s) e
       ∙ held-passed two p (c + 1) nibble (suc (15 - nibble)) 0 s (λ j l u. held j (omega arith) ∙ step-stays c small j (λ q. omega arith))
@@ -141,7 +148,7 @@ module _ (p : Places) (c : ℕ) (s : Chip) (small : c + 1 < 2 ^ 32) (ready : Rea
       ∙ then-same (next nibble s) (storeFrom (15 - nibble) (nibble + 1) two p (c + 1)) (next (8 + nibble)) (λ d. rest d)
     where
       slot : Moves two p nibble (slotCode (c + 1) nibble) (change (dataOf two p s nibble) (slotCode (c + 1) nibble)) s (next nibble s)
-      slot = let h = nibble-small in slot-laws ready sound nibble (omega arith) (slotCode (c + 1) nibble)
+      slot = let h = low in slot-laws ready sound nibble (omega arith) (slotCode (c + 1) nibble)
 
       rest : next nibble s .answer ≡ Done → storeFrom (15 - nibble) (nibble + 1) two p (c + 1) (next nibble s .after) ≡ next (8 + nibble) (next nibble s .after)
       rest d = behind _ (ready-kept ready (within-kept (slot .within))) (slot .settles d .sound) (slot .settles d .kept)
@@ -160,16 +167,14 @@ module _ (p : Places) (c : ℕ) (s : Chip) (good : fitted two p s ≡ true) (wel
     unfolding slotCode
     code-is j e = rw (e, code, here)
 
-    next-is : store two p (c + 1) s ≡ storeSlot two p k b s andThen storeSlot two p (8 + k) b
+    pub next-is : store two p (c + 1) s ≡ storeSlot two p k b s andThen storeSlot two p (8 + k) b
     next-is =
         let small = step-nibble-small c (omega arith) in
         rw here
         (next-stored p c s (omega arith) (fitted-ready good) (test-sound two p _ well) held
         ∙ rw (code-is (changedNibble c) (omega arith), code-is (8 + changedNibble c) (omega arith)))
 
-    module _ {v : Seen Work} (e : v ≡ view (storeSlot two p k b s)) where
-      pub next-stopped : {why : Refusal} → v .answer ≡ Stopped why → view (store two p (c + 1) s) ≡ seen (Stopped why) (v .writes) (v .tried) (v .after)
-      next-stopped h = ap (λ (r : Run Work). view r) next-is ∙ said-stopped (storeSlot two p k b s) (storeSlot two p (8 + k) b) e h
-
-      pub next-done : v .answer ≡ Done → view (store two p (c + 1) s) ≡ plus (v .writes) (v .tried) (view (storeSlot two p (8 + k) b (v .after)))
-      next-done h = ap (λ (r : Run Work). view r) next-is ∙ said-done (storeSlot two p k b s) (storeSlot two p (8 + k) b) e h
+    pub next-other : (j : ℕ) → j < 16 → j % 8 ≡ k → dataOf two p s j ≡ b → ⊥
+    next-other j l e same =
+        let at : j % 8 ≡ changedNibble c = e ∙ here in
+        step-changed c (omega arith) j at (sym (held j l) ∙ same ∙ sym (code-is j at))

@@ -3,12 +3,15 @@
 ghost use mathlib.Core.Path.{_≡_};
 ghost use mathlib.Core.Bool.{true};
 ghost use Prim.Native.Nat.{_+_, _≤_, _<_};
-ghost use lib.ListN.{length};
+ghost use lib.ListN.{length, getD};
+ghost use lib.Dec.{ltb};
 ghost use Rattle.cells.specs.Chip.{chip};
 ghost use Rattle.cells.specs.Run.{seen, view};
-ghost use Rattle.counter.specs.Slots.{two, kindOf};
-ghost use Rattle.counter.specs.Places.{fitted};
+ghost use Rattle.counter.specs.Slots.{two, kindOf, _and_};
+ghost use Rattle.counter.specs.Places.{placesGood, fitted};
 ghost use Rattle.counter.specs.Map.{mapIn, pointerOf, sound, reachable};
+ghost use Rattle.counter.specs.Verdict.{_andThen_};
+ghost use Rattle.counter.specs.Reading.{dataAt};
 ghost use Rattle.counter.specs.Store.{mapped, putPointer, trySpares, moveSlot, storeSlot, store, Holds};
 use super::map::Map;
 use super::map::offset_of;
@@ -19,6 +22,7 @@ use super::spares::gap_of;
 use super::verdict::Refusal;
 use super::verdict::Work;
 use cells::put::put;
+use cells::put::write;
 use cells::row::Found;
 use cells::row::RowPut;
 use cells::row::Walked;
@@ -184,14 +188,11 @@ pub fn settle(image: &mut [u8], lives: &mut [u32], p: Places, count: u32, exact:
     store_count(image, lives, p, count)
 }
 
-// The next count stored where all slots hold a count's codes: one nibble changes, in each copy.
-pub fn store_next(image: &mut [u8], lives: &mut [u32], p: Places, count: u32) -> Stored
-    requires { ⌜ (fitted two p (chip (now image) (now lives)) ≡ true) × (sound two p (pointerOf (mapIn two p (now image))) ≡ true) × (count < 4294967295) × (Holds two p count (now image)) ⌝ }
-    ensures { λ r. ⌜ seen (r .work) (r .writes) (r .tried) (chip (now (image .exit)) (now (lives .exit))) ≡ view (store two p (count + 1) (chip (now (image .entry)) (now (lives .entry)))) ⌝ }
+// A byte stored in both slots of a nibble, one after the other.
+fn store_each(image: &mut [u8], lives: &mut [u32], p: Places, nibble: usize, byte: u8) -> Stored
+    requires { ⌜ (fitted two p (chip (now image) (now lives)) ≡ true) × (sound two p (pointerOf (mapIn two p (now image))) ≡ true) × (nibble < 8) ⌝ }
+    ensures { λ r. ⌜ seen (r .work) (r .writes) (r .tried) (chip (now (image .exit)) (now (lives .exit))) ≡ view (storeSlot two p nibble byte (chip (now (image .entry)) (now (lives .entry))) andThen storeSlot two p (8 + nibble) byte) ⌝ }
 {
-    let next = count + 1;
-    let nibble = (changed_bit(next) / 4) as usize;
-    let byte = code_of(nibble_of(gray_of(next), nibble));
     let first = store_slot(image, lives, p, nibble, byte);
     let work = first.work;
     if let Work::Stopped(why) = work {
@@ -208,4 +209,64 @@ pub fn store_next(image: &mut [u8], lives: &mut [u32], p: Places, count: u32) ->
         writes: first.writes + second.writes,
         tried: first.tried + second.tried,
     }
+}
+
+// The cells of a nibble, in copy 1 and in copy 2.
+pub struct Pair {
+    pub one: usize,
+    pub other: usize,
+}
+
+// Where the map says that a nibble's cells are.
+fn cells_of(image: &[u8], p: Places, nibble: usize) -> Pair
+    requires { ⌜ (placesGood two (length (now image)) p ≡ true) × (nibble < 8) ⌝ }
+    ensures { λ r. ⌜ (r .one ≡ pointerOf (mapIn two p (now (image .entry))) nibble) × (r .other ≡ pointerOf (mapIn two p (now (image .entry))) (8 + nibble)) ⌝ }
+{
+    let map = Map::at(p.map).cells(image);
+    Pair {
+        one: pointer_of(map, nibble),
+        other: pointer_of(map, 8 + nibble),
+    }
+}
+
+// Whether two cells both have life left.
+fn both_alive(lives: &[u32], one: usize, other: usize) -> bool
+    requires { ⌜ (one < length (now lives)) × (other < length (now lives)) ⌝ }
+    ensures { λ r. ⌜ r ≡ (ltb 0 (getD (now (lives .entry)) one 0) and ltb 0 (getD (now (lives .entry)) other 0)) ⌝ }
+{
+    if 0 < lives[one] {
+        return 0 < lives[other];
+    }
+    false
+}
+
+// A byte stored in both slots of a nibble, where neither holds it: two writes, unless a cell is worn.
+fn store_both(image: &mut [u8], lives: &mut [u32], p: Places, nibble: usize, byte: u8) -> Stored
+    requires { ⌜ (fitted two p (chip (now image) (now lives)) ≡ true) × (sound two p (pointerOf (mapIn two p (now image))) ≡ true) × (nibble < 8) × (dataAt (now image) (mapIn two p (now image)) nibble ≡ byte → ⊥) × (dataAt (now image) (mapIn two p (now image)) (8 + nibble) ≡ byte → ⊥) ⌝ }
+    ensures { λ r. ⌜ seen (r .work) (r .writes) (r .tried) (chip (now (image .exit)) (now (lives .exit))) ≡ view (storeSlot two p nibble byte (chip (now (image .entry)) (now (lives .entry))) andThen storeSlot two p (8 + nibble) byte) ⌝ }
+{
+    let cells = cells_of(image, p, nibble);
+    let one = cells.one;
+    let other = cells.other;
+    if both_alive(lives, one, other) {
+        write(image, lives, one, byte);
+        write(image, lives, other, byte);
+        return Stored {
+            work: Work::Done,
+            writes: 2,
+            tried: 0,
+        };
+    }
+    store_each(image, lives, p, nibble, byte)
+}
+
+// The next count stored where all slots hold a count's codes: one nibble changes, in each copy.
+pub fn store_next(image: &mut [u8], lives: &mut [u32], p: Places, count: u32) -> Stored
+    requires { ⌜ (fitted two p (chip (now image) (now lives)) ≡ true) × (sound two p (pointerOf (mapIn two p (now image))) ≡ true) × (count < 4294967295) × (Holds two p count (now image)) ⌝ }
+    ensures { λ r. ⌜ seen (r .work) (r .writes) (r .tried) (chip (now (image .exit)) (now (lives .exit))) ≡ view (store two p (count + 1) (chip (now (image .entry)) (now (lives .entry)))) ⌝ }
+{
+    let next = count + 1;
+    let nibble = (changed_bit(next) / 4) as usize;
+    let byte = code_of(nibble_of(gray_of(next), nibble));
+    store_both(image, lives, p, nibble, byte)
 }

@@ -12,12 +12,10 @@ use native.Mathlib.Decide.{ℕ-discrete}
 use native.Mathlib.Omega.{arith}
 use borrow.Author.Tests.{eq-eqb, ne-eqb}
 use lib.Dec.{eqb}
-use Rattle.cells.specs.Chip.{Chip, lifeAt, pick, writeAt, Kept}
-use Rattle.cells.specs.Run.{Run, Write, write, run, still, _then_, _giving_}
+use Rattle.cells.specs.Chip.{Chip, lifeAt, pick, writeAt}
+use Rattle.cells.specs.Run.{Run, Write, write, run, still, _then_}
 use Rattle.cells.specs.Log.{askedOf}
-use Rattle.cells.proofs.Writes.{kept-wider}
 use Rattle.cells.proofs.Logs.{asked-none, asked-here, asked-elsewhere}
-use Rattle.cells.proofs.Puts.{put-laws}
 use Rattle.counter.specs.declared.places.Places.{Places}
 use Rattle.counter.specs.declared.verdict.Work.{Work}
 use Rattle.counter.specs.declared.verdict.Work.the-variants.{Done}
@@ -26,8 +24,9 @@ use Rattle.counter.specs.Map.{mapIn, pointerOf}
 use Rattle.counter.specs.Verdict.{_andThen_}
 use Rattle.counter.specs.Store.{slotCode, storeSlot, storeFrom, store}
 use Rattle.counter.proofs.SoundPointers.{Sound}
-use Rattle.counter.proofs.Ready.{pointers, dataOf, Ready, ready-kept, map-kept}
-use Rattle.counter.proofs.Moves.{change, slot-there, slot-alive}
+use Rattle.counter.proofs.Ready.{pointers, dataOf, Ready}
+use Rattle.counter.proofs.Moves.{change, slot-there}
+use Rattle.counter.proofs.Written.{slot-written, written-map, written-ready, written-sound, written-data, written-life}
 
 -- w in front of ws, where the test does not hold
 abbrev pub unlessSame : Bool → Write → List Write → List Write
@@ -73,31 +72,24 @@ module _ (copies : ℕ) (p : Places) (c : ℕ) where
       }
 
   module _ (n k : ℕ) (s : Chip) (ready : Ready copies p s) (sound : Sound (slots copies) p (pointers copies p s)) (fits : k + suc n ≤ slots copies)
-      (other : dataOf copies p s k ≡ slotCode c k → ⊥) (alive : 1 ≤ lifeAt s (pointers copies p s k)) where
+      (other : dataOf copies p s k ≡ slotCode c k → ⊥) where
     abbrev a : ℕ
     a = pointers copies p s k
 
     abbrev t : Chip
     t = writeAt a (slotCode c k) s
 
-    slot-is : storeSlot copies p k (slotCode c k) s ≡ run Done (write a (slotCode c k) ∷ []) 0 t
-    slot-is = slot-alive copies p k (slotCode c k) s (ready .paired) alive ∙ ap (λ (r : Run Bool). r giving Done) (put-laws a (slotCode c k) s (ready .paired) .taken other alive)
-
-    kept : Kept (λ x. x ≡ a) s t
-    kept = rw (put-laws a (slotCode c k) s (ready .paired) .taken other alive) at (put-laws a (slotCode c k) s (ready .paired) .kept)
+    inside : k < slots copies
+    inside = omega arith
 
     map-same : mapIn copies p (t .cells) ≡ mapIn copies p (s .cells)
-    map-same = map-kept ready (kept-wider (λ x e. rw e (sound .inside k (omega arith))) kept)
+    map-same = written-map ready sound k inside (slotCode c k)
 
-    -- the other slots' cells stay, and their lives
     data-same : (j : ℕ) → j < slots copies → (j ≡ k → ⊥) → dataOf copies p t j ≡ dataOf copies p s j
-    data-same j l d = rw map-same (kept .cell (pointers copies p s j) (sound .apart j k l (omega arith) d))
-
-    life-same : (j : ℕ) → j < slots copies → (j ≡ k → ⊥) → lifeAt t (pointers copies p t j) ≡ lifeAt s (pointers copies p s j)
-    life-same j l d = rw map-same (kept .life (pointers copies p s j) (sound .apart j k l (omega arith) d))
+    data-same = written-data ready sound k inside (slotCode c k)
 
     still-alive : Alive copies p (suc n) k c s → Alive copies p n (k + 1) c t
-    still-alive h j l u d = rw (life-same j (omega arith) (λ e. omega arith)) (h j (omega arith) (omega arith) (λ e. d (data-same j (omega arith) (λ q. omega arith) ∙ e)))
+    still-alive h j l u d = rw (written-life ready sound k inside (slotCode c k) j (omega arith) (λ e. omega arith)) (h j (omega arith) (omega arith) (λ e. d (data-same j (omega arith) (λ q. omega arith) ∙ e)))
 
     -- what the later slots are to write is the same on both chips
     rest-same :
@@ -139,13 +131,14 @@ module _ (copies : ℕ) (p : Places) (c : ℕ) where
           rw (slot-there copies p k (slotCode c k) s e)
           (calm-there n k s _ e (rest s (omega arith) ready sound (λ j l u d. alive j (omega arith) (omega arith) d)))
       go rest (no d) =
+          let here : k < slots copies = omega arith in
           let life = alive k (omega arith) (omega arith) d in
           let later =
           rest (writeAt (pointers copies p s k) (slotCode c k) s) (omega arith)
-          (ready-kept ready (kept n k s ready sound fits d life))
-          (rw (map-same n k s ready sound fits d life) sound)
-          (still-alive n k s ready sound fits d life alive) in
-          rw (slot-is n k s ready sound fits d life) (calm-taken n k s ready sound fits d life _ later)
+          (written-ready ready sound k here (slotCode c k))
+          (written-sound ready sound k here (slotCode c k))
+          (still-alive n k s ready sound fits d alive) in
+          rw (slot-written ready sound k here (slotCode c k) (record { other = d; alive = life })) (calm-taken n k s ready sound fits d _ later)
 
   pub calm-store :
       (s : Chip) → Ready copies p s → Sound (slots copies) p (pointers copies p s)

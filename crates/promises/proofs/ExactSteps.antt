@@ -33,7 +33,8 @@ use Rattle.counter.proofs.Stores.{changes, changes-same, Stores, store-laws}
 use Rattle.counter.proofs.Exact.{Exact, exact-stored, exact-verdict, exact-still}
 use Rattle.counter.proofs.GoodVerdicts.{not-good}
 use Rattle.promises.proofs.DoorRuns.{step-on}
-use Rattle.promises.proofs.StepChanges.{changedNibble, step-changed, step-stays, change-step, step-changes}
+use Rattle.counter.proofs.NextStores.{changedNibble, step-changed, step-stays}
+use Rattle.promises.proofs.StepChanges.{change-step, step-changes}
 use Rattle.promises.proofs.Ample.{changedWrites, writes-same, Calm, Alive, calm-store, tally-slot, tally-other}
 
 -- ## The writes of a step

@@ -1,57 +1,35 @@
 -- What changes from one count to the next: in each copy the byte of one slot.
---   changedNibble             the number of the nibble that changes from c to c + 1
---   step-changed              the code of a slot of that nibble changes
---   step-stays                every other stays
---   change-step               both as a number
+--   change-step               the code of a slot changes just where its nibble is the changed one, as a number
 --   step-changes              so as many slots change as there are copies
 use Prim.Native.Nat.{ℕ, zero, suc, _+_, _-_, _/_, _%_, _^_, _<_}
-use mathlib.Core.Path.{_≡_, sym, ap}
+use mathlib.Core.Path.{_≡_}
 use native.Mathlib.Nat.{add-zero, zero-add}
 use native.Mathlib.Decide.{ℕ-discrete}
 use native.Mathlib.Omega.{arith}
 use borrow.Author.Tests.{eq-eqb, ne-eqb}
 use lib.Dec.{eqb}
-use Rattle.code.specs.Codes.{codeOf}
-use Rattle.code.specs.Gray.{grayOf, changedBit}
-use Rattle.code.specs.Nibbles.{nibbleOf}
-use Rattle.code.proofs.NibbleLaws.{nibble-small}
-use Rattle.code.proofs.ReadingLaws.{code-injective}
-use Rattle.code.proofs.ChangeLaws.{step-nibble-small, step-nibble, step-nibble-others}
+use Rattle.code.proofs.ChangeLaws.{step-nibble-small}
 use Rattle.cells.specs.Chip.{pick}
 use Rattle.counter.specs.Slots.{slots}
 use Rattle.counter.specs.Store.{slotCode}
 use Rattle.counter.proofs.Moves.{change}
 use Rattle.counter.proofs.Stores.{changes}
-
-abbrev pub changedNibble : ℕ → ℕ
-changedNibble c = changedBit (c + 1) / 4
-
--- the codes of two counts differ where the nibbles do
-pub code-differs : (c d k : ℕ) → slotCode c k ≡ slotCode d k → nibbleOf (grayOf c) (k % 8) ≡ nibbleOf (grayOf d) (k % 8)
-unfolding slotCode
-code-differs c d k e = code-injective _ _ (nibble-small (grayOf c) (k % 8)) (nibble-small (grayOf d) (k % 8)) e
+use Rattle.counter.proofs.NextStores.{changedNibble, step-changed, step-stays}
 
 module _ (c : ℕ) (small : c + 1 < 2 ^ 32) where
-  pub step-changed : (k : ℕ) → k % 8 ≡ changedNibble c → slotCode c k ≡ slotCode (c + 1) k → ⊥
-  step-changed k at e = step-nibble c small (sym (rw at at (code-differs c (c + 1) k e)))
-
-  pub step-stays : (k : ℕ) → (k % 8 ≡ changedNibble c → ⊥) → slotCode c k ≡ slotCode (c + 1) k
-  unfolding slotCode
-  step-stays k other = ap codeOf (sym (step-nibble-others c (k % 8) small other))
-
   -- a slot changes by one byte where its nibble is the changed one
   pub change-step : (k : ℕ) → change (slotCode c k) (slotCode (c + 1) k) ≡ pick (eqb (k % 8) (changedNibble c)) 1 0
   change-step k = go (ℕ-discrete (k % 8) (changedNibble c))
     where
       go : Dec (k % 8 ≡ changedNibble c) → change (slotCode c k) (slotCode (c + 1) k) ≡ pick (eqb (k % 8) (changedNibble c)) 1 0
-      go (yes e) = rw (ne-eqb _ _ (step-changed k e), eq-eqb _ _ e)
-      go (no n) = rw (eq-eqb _ _ (step-stays k n), ne-eqb _ _ n)
+      go (yes e) = rw (ne-eqb _ _ (step-changed c small k e), eq-eqb _ _ e)
+      go (no n) = rw (eq-eqb _ _ (step-stays c small k n), ne-eqb _ _ n)
 
   change-is :
       (k : ℕ) → Dec (k % 8 ≡ changedNibble c)
       → change (slotCode c k) (slotCode (c + 1) k) + (k + 7 - changedNibble c) / 8 ≡ (k + 1 + 7 - changedNibble c) / 8
-  change-is k (yes e) = let h = step-nibble-small c small in rw (ne-eqb _ _ (step-changed k e)) (omega arith)
-  change-is k (no n) = let h = step-nibble-small c small in rw (eq-eqb _ _ (step-stays k n)) (omega arith)
+  change-is k (yes e) = let h = step-nibble-small c small in rw (ne-eqb _ _ (step-changed c small k e)) (omega arith)
+  change-is k (no n) = let h = step-nibble-small c small in rw (eq-eqb _ _ (step-stays c small k n)) (omega arith)
 
   -- the changes among the n slots from k on are the numbers of the changed nibble among them
   changes-are : (n k : ℕ) → changes n k (slotCode c) (slotCode (c + 1)) + (k + 7 - changedNibble c) / 8 ≡ (k + n + 7 - changedNibble c) / 8

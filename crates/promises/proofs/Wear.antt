@@ -25,7 +25,7 @@ use Rattle.promises.specs.Runs.{stepsUpTo, opened, cellOf, counting, wri
 use Rattle.counter.proofs.Ready.{pointers, Ready, inside-cell}
 use Rattle.counter.proofs.Exact.{Exact}
 use Rattle.promises.proofs.DoorRuns.{open-laws, step-laws}
-use Rattle.promises.proofs.StepChanges.{changedNibble}
+use Rattle.counter.proofs.NextStores.{changedNibble}
 use Rattle.promises.proofs.ExactSteps.{stepWrites, StepCalm, step-calm}
 use Rattle.promises.proofs.RunSteps.{steps-next, steps-within}
 use Rattle.promises.proofs.WriteCounts.{writes-none, writes-step}

@@ -14,7 +14,7 @@ use Rattle.code.proofs.NibbleLaws.{sixteens-positive}
 use Rattle.code.proofs.ChangeLaws.{step-nibble-divides}
 use Rattle.cells.specs.Chip.{pick}
 use Rattle.promises.specs.Runs.{writesOf}
-use Rattle.promises.proofs.StepChanges.{changedNibble}
+use Rattle.counter.proofs.NextStores.{changedNibble}
 
 -- the nibbles 0, 1 and 2 in 20 steps, and in 256
 twenty : (writesOf 20 0 ≡ 19) × (writesOf 20 1 ≡ 1) × (writesOf 20 2 ≡ 0)

@@ -1,22 +1,14 @@
--- `store::store_next` meets its contract: the two slots of the nibble that changes, one after the other.
-use Prim.Native.Nat.{_+_, _/_, _≤_, _<_}
+-- `store::store_next` meets its contract: what changes is one nibble, in each copy.
+use Prim.Native.Nat.{_+_, _/_, _<_}
 use mathlib.Core.Path.{_≡_, sym, ap, _∙_}
-use mathlib.Core.Bool.{true}
 use native.Mathlib.Omega.{arith}
 use Rattle.code.specs.Codes.{codeOf}
 use Rattle.code.specs.Gray.{grayOf}
 use Rattle.code.specs.Nibbles.{nibbleOf}
 use Rattle.code.proofs.ChangeLaws.{step-nibble-small}
-use Rattle.cells.specs.Chip.{chip}
-use Rattle.cells.specs.Run.{plus}
-use Rattle.counter.specs.declared.verdict.Work.the-variants.{Done}
-use Rattle.counter.specs.Slots.{two}
-use Rattle.counter.specs.Places.{fitted}
-use Rattle.counter.specs.Map.{mapIn, pointerOf, sound}
-use Rattle.counter.proofs.Fitted.{fitted-ready}
-use Rattle.counter.proofs.StoreViews.{slot-settled}
-use Rattle.counter.proofs.StoreCosts.{slot-few}
-use Rattle.counter.proofs.NextStores.{changedNibble, next-stopped, next-done}
+use Rattle.cells.specs.Run.{Run, view}
+use Rattle.counter.specs.declared.verdict.Work.{Work}
+use Rattle.counter.proofs.NextStores.{changedNibble, next-is, next-other}
 use borrow.Author.Needs.{needs}
 use Rattle.counter.proofs.store.store_next.Statement.{statement}
 use Rattle.counter.proofs.store.store_next.Tie as tie
@@ -51,11 +43,14 @@ nibble-of-requires c κs = search needs
 code-of-requires : tie.Need-code-of-requires
 code-of-requires c κs = search needs
 
-store-slot-requires : tie.Need-store-slot-requires
-store-slot-requires c κs = let s = c .before .before .before .before .before .before .before .before in let h = small (c .before .before .before .before .before) in (s .pre .0, s .pre .1, omega arith)
-
-enum-known-work : tie.Need-enum-known-work
-enum-known-work c = search needs
+store-both-requires : tie.Need-store-both-requires
+store-both-requires c κs =
+    let coded = c .before .before in
+    let changed = coded .before .before .before in
+    let s = changed .before .before .before in
+    let h = small changed in
+    let other = next-other _ (s .args .count) _ (s .pre .0) (s .pre .1) (s .pre .2) (s .pre .3) (here changed) (code coded) in
+    (s .pre .0, s .pre .1, h, other _ (omega arith) (omega arith), other _ (omega arith) (omega arith))
 
 same-length : tie.Need-same-length
 same-length c = search needs
@@ -65,62 +60,12 @@ same-length-2 c = search needs
 
 returns : tie.Need-returns
 returns c =
-    let first = c .before .before .before .before .before .before .before in
-    let s = first .before .before .before .before .before .before .before .before .before in
-    sym (next-stopped _ (s .args .count) _ (s .pre .0) (s .pre .1) (s .pre .2) (s .pre .3) (here (first .before .before .before .before .before .before)) (code (first .before .before .before)) (first .store-slot .ensures) (c .before .work .given .1))
-
-enum-told : tie.Need-enum-told
-enum-told c = search needs
-
-add-store-slot : tie.Need-add-store-slot
-add-store-slot c = search needs
-
--- the first slot leaves the chip fit for the second
-settled : (c : tie.After-store-slot) → c .store-slot .result .work ≡ Done
-    → let p = c .before .before .before .before .before .before .before .before .before .args .p in
-    let cells = c .store-slot .last .0 in
-    (fitted two p (chip cells (c .store-slot .last .1 .0)) ≡ true) × (sound two p (pointerOf (mapIn two p cells)) ≡ true)
-settled c h = let s = c .before .before .before .before .before .before .before .before .before in let l = small (c .before .before .before .before .before .before) in slot-settled two _ _ (s .pre .0) (s .pre .1) _ _ (omega arith) (c .store-slot .ensures) h
-
-store-slot-requires-2 : tie.Need-store-slot-requires-2
-store-slot-requires-2 c κs =
-    let first = c .before .before .before .before .before .before .before .before in
-    let fit = settled first (c .before .before .enum-told .given .1) in
-    let h = small (first .before .before .before .before .before .before) in
-    (fit .0, fit .1, omega arith)
-
--- each of the two slots asks few writes and tries few spares
-few : (c : tie.After-store-slot2) → let first = c .before .before .before .before .before .before .before .before .before .store-slot .result in
-    let second = c .store-slot2 .result in
-    (first .writes ≤ 4099) × (first .tried ≤ 4096) × (second .writes ≤ 4099) × (second .tried ≤ 4096)
-few c =
-    let first = c .before .before .before .before .before .before .before .before .before in
-    let s = first .before .before .before .before .before .before .before .before .before in
-    let one = slot-few (fitted-ready (s .pre .0)) _ _ (first .store-slot .ensures) in
-    let fit = settled first (c .before .before .before .enum-told .given .1) in
-    let other = slot-few (fitted-ready (fit .0)) _ _ (c .store-slot2 .ensures) in
-    (one .0, one .1, other .0, other .1)
-
-add-t25 : tie.Need-add-t25
-add-t25 c = omega (arith, few (c .before .before .before .before .before .before))
-
-add-t26 : tie.Need-add-t26
-add-t26 c = omega (arith, few (c .before .before .before .before .before .before .before .before))
-
-same-length-3 : tie.Need-same-length-3
-same-length-3 c = search needs
-
-same-length-4 : tie.Need-same-length-4
-same-length-4 c = search needs
-
-returns-2 : tie.Need-returns-2
-returns-2 c =
-    let second = c .before .before .before .before .before .before .before .before in
-    let first = second .before .before .before .before .before .before .before .before .before in
-    let s = first .before .before .before .before .before .before .before .before .before in
-    sym
-    (next-done _ (s .args .count) _ (s .pre .0) (s .pre .1) (s .pre .2) (s .pre .3) (here (first .before .before .before .before .before .before)) (code (first .before .before .before)) (first .store-slot .ensures) (second .before .before .before .enum-told .given .1)
-    ∙ ap (plus (first .store-slot .result .writes) (first .store-slot .result .tried)) (sym (second .store-slot2 .ensures)))
+    let call = c .before .before .before .before in
+    let coded = call .before .before .before in
+    let changed = coded .before .before .before in
+    let s = changed .before .before .before in
+    call .store-both .ensures
+    ∙ sym (ap (λ (r : Run Work). view r) (next-is _ (s .args .count) _ (s .pre .0) (s .pre .1) (s .pre .2) (s .pre .3) (here changed) (code coded)))
 
 pub store-next-spec : {M : Type 1} → statement M
 store-next-spec =
@@ -132,16 +77,7 @@ store-next-spec =
     gray-of-requires
     nibble-of-requires
     code-of-requires
-    store-slot-requires
-    enum-known-work
+    store-both-requires
     same-length
     same-length-2
-    returns
-    enum-told
-    add-store-slot
-    store-slot-requires-2
-    add-t25
-    add-t26
-    same-length-3
-    same-length-4
-    returns-2)
+    returns)
