@@ -12,15 +12,16 @@ pub struct BytePut {
     pub writes: usize,
 }
 
-// One write: a cell with life left stores the byte and loses one life, a worn cell stays as it is.
+// One write: a cell with life left stores the byte and loses one life, a worn cell stays as it is. The byte
+// is stored last, so that the compiler knows what a reading back finds.
 pub fn write(image: &mut [u8], lives: &mut [u32], at: usize, byte: u8)
     requires { ⌜ (at < length (now image)) × (length (now lives) ≡ length (now image)) ⌝ }
     ensures { λ r. ⌜ chip (now (image .exit)) (now (lives .exit)) ≡ writeAt at byte (chip (now (image .entry)) (now (lives .entry))) ⌝ }
 {
     let life = lives[at];
     if 0 < life {
-        image[at] = byte;
         lives[at] = life - 1;
+        image[at] = byte;
     }
 }
 

@@ -11,9 +11,6 @@ mul-life c = search needs
 slice-read-life : tie.Need-slice-read-life
 slice-read-life c = search needs
 
-slice-write-image : tie.Need-slice-write-image
-slice-write-image c = search needs
-
 sub-lives : tie.Need-sub-lives
 sub-lives c = search needs
 
@@ -22,6 +19,9 @@ mul-lives c = search needs
 
 slice-write-lives : tie.Need-slice-write-lives
 slice-write-lives c = search needs
+
+slice-write-image : tie.Need-slice-write-image
+slice-write-image c = search needs
 
 same-length : tie.Need-same-length
 same-length c = search needs
@@ -43,10 +43,10 @@ write-spec =
     (tie.spec
     mul-life
     slice-read-life
-    slice-write-image
     sub-lives
     mul-lives
     slice-write-lives
+    slice-write-image
     same-length
     same-length-2
     returns
