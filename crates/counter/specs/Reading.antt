@@ -1,5 +1,6 @@
 -- Reading (document 01, "Reading" and the table of refusals).
-use Prim.Native.Nat.{ℕ, zero, suc, _+_, _-_, _*_}
+use Prim.Native.Nat.{ℕ, zero, suc, _+_, _-_, _*_, _<_}
+use mathlib.Core.Path.{_≡_}
 use mathlib.Core.Bool.{Bool, true, false}
 use mathlib.Core.List.{List}
 use lib.IntN.{ℤ, pos, negsuc, _-ℤ_}
@@ -20,13 +21,17 @@ use Rattle.counter.specs.declared.verdict.Verdict.{Verdict}
 use Rattle.counter.specs.declared.verdict.Verdict.the-variants.{Good, Refused}
 use Rattle.counter.specs.declared.verdict.Refusal.{Refusal}
 use Rattle.counter.specs.declared.verdict.Refusal.the-variants.{BadLength, BadPlaces, NoMark, UnsoundMap, TwoCodes, LostNibble, Apart}
-use Rattle.counter.specs.Slots.{every, some, lowest, tabulate, _and_, _or_}
-use Rattle.counter.specs.Places.{lengthGood, placesGood}
+use Rattle.counter.specs.Slots.{two, slots, every, some, lowest, tabulate, _and_, _or_}
+use Rattle.counter.specs.Places.{mapCells, lengthGood, placesGood}
 use Rattle.counter.specs.Map.{mapIn, marked, pointerOf, sound}
 
 -- the byte at a slot's pointer
 abbrev pub dataAt : List ℕ → List ℕ → ℕ → ℕ
 dataAt cells map k = getD cells (pointerOf map k) 0
+
+-- a whole map of two copies, all of whose pointers are cells of the image
+abbrev pub Reaches : List ℕ → List ℕ → Type 0
+Reaches cells map = (length map ≡ mapCells two) × ((k : ℕ) → k < slots two → pointerOf map k < length cells)
 
 -- nibble n of the lowest-numbered copy that has one, among so many copies from one on, given what each slot
 -- reads as; copies are counted from 0

@@ -10,8 +10,8 @@ ghost use Rattle.code.specs.Readings.{isLost, nibbleRead};
 ghost use Rattle.code.specs.Entries.{readingAt};
 ghost use Rattle.cells.specs.Chip.{pick};
 ghost use Rattle.counter.specs.Slots.{two, lowest};
-ghost use Rattle.counter.specs.Map.{listed, pointerOf};
-ghost use Rattle.counter.specs.Reading.{dataAt, amiss, countIn, decide, weigh, examine, verdictOf};
+ghost use Rattle.counter.specs.Map.{listed};
+ghost use Rattle.counter.specs.Reading.{dataAt, Reaches, amiss, countIn, decide, weigh, examine, verdictOf};
 ghost use Rattle.counter.specs.Places.{lengthGood, placesGood};
 ghost use Rattle.counter.specs.Store.{slotCode, Holds};
 ghost use Rattle.counter.specs.declared.verdict.Verdict.the-variants.{Good};
@@ -34,15 +34,23 @@ use code::table::entries_of;
 use code::table::laid;
 use code::table::wide;
 
-// The bytes at the pointers.
-pub fn data_of(image: &[u8], map: &[u8]) -> [u8; 16]
-    requires { ⌜ (length (now map) ≡ 24) × ((k : ℕ) → k < 16 → pointerOf (now map) k < length (now image)) ⌝ }
+// The byte at a slot's pointer.
+fn byte_of(image: &[u8], map: &[u8], slot: usize) -> u8
+    requires { ⌜ (Reaches (now image) (now map)) × (slot < 16) ⌝ }
+    ensures { λ r. ⌜ r ≡ dataAt (now (image .entry)) (now (map .entry)) slot ⌝ }
+{
+    image[pointer_of(map, slot)]
+}
+
+// The bytes at all pointers.
+fn data_of(image: &[u8], map: &[u8]) -> [u8; 16]
+    requires { ⌜ Reaches (now image) (now map) ⌝ }
     ensures { λ r. ⌜ ((k : ℕ) → k < 16 → listed r k ≡ dataAt (now (image .entry)) (now (map .entry)) k) ⌝ }
 {
     let mut data = [0u8; 16];
     let mut slot = 0;
     while slot < Map::SLOTS {
-        data[slot] = image[pointer_of(map, slot)];
+        data[slot] = byte_of(image, map, slot);
         slot += 1;
     }
     data
@@ -159,15 +167,16 @@ pub struct Plain {
 }
 
 // The nibbles of the bytes, if they are codes and the same in both copies.
-fn plain_nibbles(data: &[u8; 16]) -> Plain
-    ensures { λ r. ⌜ (length (r .nibbles) ≡ 8) × (r .clean ≡ true → (n : ℕ) → n < 8 → (listed (now («data» .entry)) n ≡ codeOf (getD (r .nibbles) n 0)) × (getD (r .nibbles) n 0 < 16) × (listed (now («data» .entry)) (8 + n) ≡ listed (now («data» .entry)) n)) ⌝ }
+fn plain_nibbles(image: &[u8], map: &[u8]) -> Plain
+    requires { ⌜ Reaches (now image) (now map) ⌝ }
+    ensures { λ r. ⌜ (length (r .nibbles) ≡ 8) × (r .clean ≡ true → (n : ℕ) → n < 8 → (dataAt (now (image .entry)) (now (map .entry)) n ≡ codeOf (getD (r .nibbles) n 0)) × (getD (r .nibbles) n 0 < 16) × (dataAt (now (image .entry)) (now (map .entry)) (8 + n) ≡ dataAt (now (image .entry)) (now (map .entry)) n)) ⌝ }
 {
     let table = laid();
     let mut nibbles = [0u8; 8];
     let mut n = 0;
     while n < 8 {
-        let byte = data[n];
-        if data[8 + n] != byte {
+        let byte = byte_of(image, map, n);
+        if byte_of(image, map, 8 + n) != byte {
             return Plain {
                 clean: false,
                 nibbles,
@@ -196,10 +205,11 @@ pub struct Finding {
 }
 
 // What the bytes of the slots come to: where both copies are the same codes, there is nothing to weigh.
-pub fn found_in(data: &[u8; 16]) -> Finding
-    ensures { λ r. ⌜ (r .verdict ≡ weigh two (listed (now («data» .entry)))) × (r .exact ≡ true → (c : ℕ) (lag : ℤ) → r .verdict ≡ Good c lag → (k : ℕ) → k < 16 → listed (now («data» .entry)) k ≡ slotCode c k) ⌝ }
+pub fn found_in(image: &[u8], map: &[u8]) -> Finding
+    requires { ⌜ Reaches (now image) (now map) ⌝ }
+    ensures { λ r. ⌜ (r .verdict ≡ weigh two (dataAt (now (image .entry)) (now (map .entry)))) × (r .exact ≡ true → (c : ℕ) (lag : ℤ) → r .verdict ≡ Good c lag → (k : ℕ) → k < 16 → dataAt (now (image .entry)) (now (map .entry)) k ≡ slotCode c k) ⌝ }
 {
-    let plain = plain_nibbles(data);
+    let plain = plain_nibbles(image, map);
     if plain.clean {
         let nibbles = plain.nibbles;
         let count = count_of(word_of(nibbles));
@@ -208,7 +218,8 @@ pub fn found_in(data: &[u8; 16]) -> Finding
             exact: true,
         };
     }
-    let verdict = weighed(data);
+    let bytes = data_of(image, map);
+    let verdict = weighed(&bytes);
     Finding {
         verdict,
         exact: false,
@@ -227,8 +238,7 @@ pub fn examined(image: &[u8], p: Places) -> Finding
             exact: false,
         };
     }
-    let bytes = data_of(image, map);
-    found_in(&bytes)
+    found_in(image, map)
 }
 
 // What an image reads as, by the tests in the order of the table.

@@ -1,9 +1,9 @@
 -- `reading::data_of` meets its contract: the slots passed have their bytes.
 use Prim.Native.Nat.{ℕ, _-_, _≤_, _<_}
-use mathlib.Core.Path.{_≡_, refl, ap}
+use mathlib.Core.Path.{_≡_, refl}
 use borrow.Author.Needs.{needs}
 use native.Mathlib.Omega.{arith}
-use lib.ListN.{length, getD, length-set}
+use lib.ListN.{length, length-set}
 use Rattle.counter.specs.Map.{listed}
 use Rattle.counter.specs.Reading.{dataAt}
 use Rattle.code.proofs.Filled.{all-set}
@@ -24,13 +24,8 @@ abbrev μ-loop : tie.MeasureT-loop
 loop-holds : tie.Need-loop-holds Inv-loop μ-loop
 loop-holds c = record { most = omega arith; size = refl; each = λ k l. absurd (omega arith) }
 
-pointer-of-requires : tie.Need-pointer-of-requires Inv-loop μ-loop
-pointer-of-requires c κs = search needs
-
-shared-slice-read-data : tie.Need-shared-slice-read-data Inv-loop μ-loop
-shared-slice-read-data c =
-    let slot = c .before .before .before .loop .slot in
-    rw (c .before .pointer-of .ensures .0) (c .before .before .before .before .before .before .pre .1 slot (omega arith))
+byte-of-requires : tie.Need-byte-of-requires Inv-loop μ-loop
+byte-of-requires c κs = (c .before .before .before .before .pre, omega arith)
 
 array-write-data : tie.Need-array-write-data Inv-loop μ-loop
 array-write-data c = omega arith
@@ -43,14 +38,14 @@ loop-less c = search needs
 
 loop-again : tie.Need-loop-again Inv-loop μ-loop
 loop-again c =
-    let loop = c .before .before .before .loop in
-    let s = c .before .before .before .before .before .before .args in
+    let loop = c .before .before .loop in
+    let s = c .before .before .before .before .before .args in
     record {
       most = omega arith;
       size = simp length-set (loop .inv .size);
       each =
           all-set (λ k x. x ≡ dataAt (s .image .now) (s .map .now) k) (loop .«data») (loop .slot) _ (omega arith) (loop .inv .each)
-          (ap (λ a. getD (s .image .now) a 0) (c .before .pointer-of .ensures .0));
+          (c .byte-of .ensures);
     }
 
 returns : tie.Need-returns Inv-loop μ-loop
@@ -63,8 +58,7 @@ data-of-spec =
     Inv-loop
     μ-loop
     loop-holds
-    pointer-of-requires
-    shared-slice-read-data
+    byte-of-requires
     array-write-data
     add-slot
     loop-less

@@ -1,16 +1,14 @@
 -- `reading::examined` meets its contract: sound pointers lie in the image.
-use Prim.Native.Nat.{ℕ, _<_}
 use mathlib.Core.Path.{_≡_, sym, _∙_}
 use borrow.Author.Tests.{not-true, not-false}
 use native.Mathlib.Omega.{arith}
 use lib.ListN.{length}
 use Rattle.counter.specs.Slots.{two}
-use Rattle.counter.specs.Map.{mapIn, pointerOf, sound, listed}
-use Rattle.counter.specs.Reading.{dataAt, examine}
+use Rattle.counter.specs.Map.{mapIn, pointerOf, sound}
+use Rattle.counter.specs.Reading.{examine}
 use Rattle.counter.proofs.Settings.{good-placed, length-good}
 use Rattle.counter.proofs.MapBytes.{map-whole}
 use Rattle.counter.proofs.SoundPointers.{test-sound}
-use Rattle.counter.proofs.Weighed.{weigh-same}
 use Rattle.counter.proofs.RangeTests.{no-claim}
 use borrow.Author.Needs.{needs}
 use Rattle.counter.proofs.reading.examined.Statement.{statement}
@@ -46,28 +44,17 @@ returns : tie.Need-returns
 unfolding examine
 returns c = (rw (tested (c .before) ∙ not-true _ (c .if1 .taken)), λ e. no-claim e)
 
-data-of-requires : tie.Need-data-of-requires
-data-of-requires c κs =
+found-in-requires : tie.Need-found-in-requires
+found-in-requires c κs =
     let placed = good-placed two _ _ (c .before .before .before .before .before .pre .1) in
     let facts = test-sound two _ _ (sym (c .before .is-sound .ensures) ∙ not-false _ (c .if1 .left)) in
     (whole (c .before .before), λ k l. let inside = facts .inside k l .to in omega arith)
 
-found-in-requires : tie.Need-found-in-requires
-found-in-requires c κs = search needs
-
--- the bytes are those at the pointers
-bytes : (c : tie.After-data-of) → let s = c .before .before .before .before .before .before .args in
-    (k : ℕ) → k < 16 → listed (c .data-of .result) k ≡ dataAt (s .image .now) (mapIn two (s .p) (s .image .now)) k
-bytes c k l = rw (← map (c .before .before .before)) (c .data-of .ensures k l)
-
 returns-2 : tie.Need-returns-2
 unfolding examine
 returns-2 c =
-    let test = c .before .before .before in
-    let read = c .before .before in (
-      rw (tested (test .before) ∙ not-false _ (test .if1 .left)) (c .found-in .ensures .0 ∙ weigh-same _ _ (bytes read)),
-      λ e d lag q k l. sym (bytes read k l) ∙ c .found-in .ensures .1 e d lag q k l,
-    )
+    let tested = tested (c .before .before) ∙ not-false _ (c .before .if1 .left) in
+    (rw (tested, ← map (c .before .before .before)) (c .found-in .ensures .0), rw (← map (c .before .before .before)) (c .found-in .ensures .1))
 
 pub examined-spec : {M : Type 1} → statement M
 examined-spec =
@@ -77,6 +64,5 @@ examined-spec =
     cells-requires
     is-sound-requires
     returns
-    data-of-requires
     found-in-requires
     returns-2)

@@ -6,9 +6,10 @@ use Rattle.code.specs.Gray.{countOf}
 use Rattle.code.specs.Nibbles.{wordOf}
 use Rattle.code.proofs.GrayLaws.{count-small}
 use Rattle.counter.specs.Slots.{two}
-use Rattle.counter.specs.Map.{listed}
+use Rattle.counter.specs.Reading.{dataAt}
 use Rattle.counter.specs.Store.{slotCode}
 use Rattle.counter.proofs.ReadBack.{weigh-exact}
+use Rattle.counter.proofs.Weighed.{weigh-same}
 use Rattle.counter.proofs.PlainBytes.{word-fits, plain-held}
 use Rattle.counter.proofs.RangeTests.{no-claim}
 use borrow.Author.Needs.{needs}
@@ -28,19 +29,23 @@ returns : tie.Need-returns
 returns c =
     let plain = c .before .before .before .before .plain-nibbles in
     let ns = plain .result .nibbles in
-    let bytes = c .before .before .before .before .before .args .«data» .now in
+    let s = c .before .before .before .before .before .before .before .args in
+    let byte : ℕ → ℕ = dataAt (s .image .now) (s .map .now) in
     let facts = plain .ensures .1 (c .before .before .before .if1 .taken) in
     let size = plain .ensures .0 in
     let count : c .count-of .result ≡ countOf (wordOf ns) = c .count-of .ensures ∙ ap countOf (c .before .word-of .ensures) in
-    let held : (k : ℕ) → k < 16 → listed bytes k ≡ slotCode (c .count-of .result) k = λ k l. plain-held (listed bytes) ns size facts k l ∙ ap (λ (x : ℕ). slotCode x k) (sym count) in
-    let small : c .count-of .result < 4294967296 = rw count (count-small _ (word-fits (listed bytes) ns size facts)) in
-    (sym (weigh-exact two {byte = listed bytes} small held (omega arith)), λ e d lag q k l. held k l ∙ ap (λ (x : ℕ). slotCode x k) (cc))
+    let held : (k : ℕ) → k < 16 → byte k ≡ slotCode (c .count-of .result) k = λ k l. plain-held byte ns size facts k l ∙ ap (λ (x : ℕ). slotCode x k) (sym count) in
+    let small : c .count-of .result < 4294967296 = rw count (count-small _ (word-fits byte ns size facts)) in
+    (sym (weigh-exact two {byte = byte} small held (omega arith)), λ e d lag q k l. held k l ∙ ap (λ (x : ℕ). slotCode x k) (cc))
+
+data-of-requires : tie.Need-data-of-requires
+data-of-requires c κs = search needs
 
 weighed-requires : tie.Need-weighed-requires
 weighed-requires c κs = search needs
 
 returns-2 : tie.Need-returns-2
-returns-2 c = (c .weighed .ensures, λ e. no-claim e)
+returns-2 c = (c .weighed .ensures ∙ weigh-same _ _ (c .before .before .data-of .ensures), λ e. no-claim e)
 
 pub found-in-spec : {M : Type 1} → statement M
 found-in-spec =
@@ -50,5 +55,6 @@ found-in-spec =
     word-of-requires
     count-of-requires
     returns
+    data-of-requires
     weighed-requires
     returns-2)

@@ -6,6 +6,7 @@ use native.Mathlib.Omega.{arith}
 use lib.ListN.{length, getD, length-set}
 use Rattle.code.specs.Codes.{codeOf}
 use Rattle.code.specs.Entries.{entryOf}
+use Rattle.counter.specs.Reading.{dataAt}
 use Rattle.code.proofs.Filled.{all-set}
 use Rattle.code.proofs.ReadingLaws.{entry-at, clean-code}
 use Rattle.counter.proofs.RangeTests.{no-claim}
@@ -14,16 +15,16 @@ use Rattle.counter.proofs.reading.plain_nibbles.Statement.{statement}
 use Rattle.counter.proofs.reading.plain_nibbles.Tie as tie
 
 abbrev Inv-loop : tie.InvT-loop
-Inv-loop «data» table nibbles₀ n₀ nibbles n =
+Inv-loop image map table nibbles₀ n₀ nibbles n =
     record {
       most : n ≤ 8;
       size : length nibbles ≡ 8;
       rule : (b : ℕ) → b < 256 → getD table b 0 ≡ entryOf b;
-      each : (k : ℕ) → k < n → (getD «data» k 0 ≡ codeOf (getD nibbles k 0)) × (getD nibbles k 0 < 16) × (getD «data» (8 + k) 0 ≡ getD «data» k 0);
+      each : (k : ℕ) → k < n → (dataAt image map k ≡ codeOf (getD nibbles k 0)) × (getD nibbles k 0 < 16) × (dataAt image map (8 + k) ≡ dataAt image map k);
     }
 
 abbrev μ-loop : tie.MeasureT-loop
-μ-loop «data» table nibbles₀ n₀ nibbles n = 8 - n
+μ-loop image map table nibbles₀ n₀ nibbles n = 8 - n
 
 laid-requires : tie.Need-laid-requires Inv-loop μ-loop
 laid-requires c κs = search needs
@@ -37,14 +38,14 @@ loop-holds c =
       each = λ j l. absurd (omega arith);
     }
 
-element-copy-out-byte : tie.Need-element-copy-out-byte Inv-loop μ-loop
-element-copy-out-byte c = search needs
+byte-of-requires : tie.Need-byte-of-requires Inv-loop μ-loop
+byte-of-requires c κs = (c .before .before .before .before .before .pre, omega arith)
 
-add-if1 : tie.Need-add-if1 Inv-loop μ-loop
-add-if1 c = search needs
+add-byte-of : tie.Need-add-byte-of Inv-loop μ-loop
+add-byte-of c = search needs
 
-element-copy-out-if1 : tie.Need-element-copy-out-if1 Inv-loop μ-loop
-element-copy-out-if1 c = search needs
+byte-of-requires-2 : tie.Need-byte-of-requires-2 Inv-loop μ-loop
+byte-of-requires-2 c κs = (c .before .before .before .before .before .before .pre, omega arith)
 
 returns : tie.Need-returns Inv-loop μ-loop
 returns c = (c .before .before .before .before .loop .inv .size, λ e. no-claim e)
@@ -70,20 +71,23 @@ loop-less c = search needs
 loop-again : tie.Need-loop-again Inv-loop μ-loop
 loop-again c =
     let wide = c .before .wide in
+    let other = c .before .before .before .byte-of2 .ensures in
+    let own = c .before .before .before .before .byte-of .ensures in
     let loop = c .before .before .before .before .before .before .loop in
-    let bytes = c .before .before .before .before .before .before .before .before .args .«data» .now in
-    let byte = getD bytes (loop .n) 0 in
-    let small : byte < 256 = omega arith in
-    let entry : getD (c .before .before .before .before .before .before .before .laid .result) (wide .result) 0 ≡ entryOf byte = loop .inv .rule (wide .result) (wide .ensures .1) ∙ ap entryOf (wide .ensures .0) in
-    let clean : entryOf byte < 16 = omega arith in
+    let s = c .before .before .before .before .before .before .before .before .before .before .args in
+    let byte : ℕ → ℕ = dataAt (s .image .now) (s .map .now) in
+    let read : wide .result ≡ byte (loop .n) = wide .ensures .0 ∙ own in
+    let small : byte (loop .n) < 256 = rw (← read) (wide .ensures .1) in
+    let entry : getD (c .before .before .before .before .before .before .before .laid .result) (wide .result) 0 ≡ entryOf (byte (loop .n)) = loop .inv .rule (wide .result) (wide .ensures .1) ∙ ap entryOf read in
+    let clean : entryOf (byte (loop .n)) < 16 = omega arith in
     record {
       most = omega arith;
       size = simp length-set (loop .inv .size);
       rule = loop .inv .rule;
       each =
-          all-set (λ k x. (getD bytes k 0 ≡ codeOf x) × (x < 16) × (getD bytes (8 + k) 0 ≡ getD bytes k 0)) (loop .nibbles) (loop .n) _ (omega arith)
+          all-set (λ k x. (byte k ≡ codeOf x) × (x < 16) × (byte (8 + k) ≡ byte k)) (loop .nibbles) (loop .n) _ (omega arith)
           (loop .inv .each)
-          (clean-code byte small clean ∙ ap codeOf (sym entry), omega arith, c .before .before .if1 .left);
+          (clean-code (byte (loop .n)) small clean ∙ ap codeOf (sym entry), omega arith, sym other ∙ c .before .before .if1 .left ∙ own);
     }
 
 returns-3 : tie.Need-returns-3 Inv-loop μ-loop
@@ -97,9 +101,9 @@ plain-nibbles-spec =
     μ-loop
     laid-requires
     loop-holds
-    element-copy-out-byte
-    add-if1
-    element-copy-out-if1
+    byte-of-requires
+    add-byte-of
+    byte-of-requires-2
     returns
     wide-requires
     array-read-entry
