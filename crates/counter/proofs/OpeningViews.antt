@@ -2,7 +2,6 @@
 --   ready-same                a chip of the same lengths is as ready
 --   whole-fits, narrow-fits   the gaps of a first opening fit the image
 --   said-done, said-stopped   one piece of storing and then another, by how the first ended
---   Lands, try-lands          where spares tried for a slot landed, and what that costs
 --   ahead                     addresses and writes in front of a taking
 --   takeLeft, take-left-..    what is left of taking addresses
 --   take-few                  it asks at most one write for each cell of the gap
@@ -12,7 +11,7 @@
 --   taken-whole, taken-reach, taking-few  the addresses taken are sixteen pointers, taken at few writes
 use Prim.Native.Nat.{ℕ, zero, suc, _+_, _-_, _*_, _≤_, _<_}
 use mathlib.Core.Path.{_≡_, refl, sym, ap, _∙_}
-use mathlib.Core.Bool.{true}
+use mathlib.Core.Bool.{Bool, true, false}
 use mathlib.Core.List.{List, [], _∷_, _++_, append-assoc, append-nil}
 use native.Mathlib.Nat.{add-zero, zero-add, add-assoc, sub-zero, sub-self}
 use native.Mathlib.Numerals.{add-one}
@@ -24,9 +23,11 @@ use Rattle.cells.specs.declared.row.Found.{Found}
 use Rattle.cells.specs.declared.row.Found.the-variants.{At, Nowhere}
 use Rattle.cells.specs.Chip.{Chip, Paired}
 use Rattle.cells.specs.Run.{Run, Seen, seen, view, plus, _giving_}
-use Rattle.cells.specs.Row.{putRow}
+use Rattle.cells.specs.Put.{putAt}
+use Rattle.cells.specs.Row.{tryAt, putRow}
 use Rattle.cells.proofs.Views.{said-then, said-answer}
 use Rattle.cells.proofs.Writes.{kept-paired}
+use Rattle.cells.proofs.Puts.{put-laws}
 use Rattle.cells.proofs.Rows.{row-tried, row-cost}
 use Rattle.counter.specs.declared.map.Kind.{Kind}
 use Rattle.counter.specs.declared.map.Kind.the-variants.{High, Low}
@@ -38,7 +39,7 @@ use Rattle.counter.specs.declared.verdict.Refusal.{Refusal}
 use Rattle.counter.specs.declared.verdict.Refusal.the-variants.{NoSpare, MapByte}
 use Rattle.counter.specs.Slots.{two, kindOf}
 use Rattle.counter.specs.Map.{offsetIn, offsetOf, markBytes, reachable, listed}
-use Rattle.counter.specs.Spares.{wholeArea, narrow}
+use Rattle.counter.specs.Spares.{wholeArea, narrow, nextOf, sparesOf}
 use Rattle.counter.specs.Verdict.{_andThen_}
 use Rattle.counter.specs.Store.{trySpares, putPointer, mapped}
 use Rattle.counter.specs.Opening.{Taken, taken, takeFrom, pointerRow, putPointers, putMark, untried, firstOpening}
@@ -50,6 +51,7 @@ use Rattle.counter.proofs.Tries.{room, Landing, Trying, Trying.missing,
 use Rattle.counter.proofs.Stores.{done-then, stopped-then}
 use Rattle.counter.proofs.StoreViews.{pointer-tried, GapFits}
 use Rattle.counter.proofs.StoreCosts.{pointer-few}
+use Rattle.counter.proofs.NextSpares.{narrow-behind, spares-none, spares-held, spares-passed}
 use Rattle.counter.proofs.Takes.{AllTaken, take-laws}
 use Rattle.counter.proofs.PointerRows.{pointers-row}
 
@@ -89,27 +91,6 @@ then-few {m} {n} r work one rest = go (r .answer) refl
     go : (w : Work) → r .answer ≡ w → Few (m + n) (view (r andThen work))
     go Done h = rw (done-then r work h, length-append) (omega arith)
     go (Stopped why) h = rw (stopped-then r work why h) (omega arith)
-
--- ## Spares tried
-
--- an address free in the gap, and what it leaves of the gap is paid for
-pub record Lands (k : ℕ) (g : Gap) (a writes : ℕ) : Type 0 where
-  pub free : Free (kindOf k) g a
-  pub cost : writes + room (narrow (kindOf k) a g) ≤ room g
-
-module _ (k : ℕ) (g : Gap) (b : ℕ) (s : Chip) {v : Seen Found} (e : v ≡ view (trySpares k g b s)) where
-  pub try-lands : Paired s → {a : ℕ} → v .answer ≡ At a → Lands k g a (v .writes)
-  try-lands paired {a} h = go (try-laws k g b s paired .trying)
-    where
-      here : trySpares k g b s .answer ≡ At a
-      here = said-answer (trySpares k g b s) e h
-
-      go : Trying k g b s → Lands k g a (v .writes)
-      go (missing m) = let q = m .nowhere in let z : _≡_ {A = ℕ} 0 1 = cc in absurd (omega arith)
-      go (landing m) =
-          let q = m .here in
-          let same : m .place ≡ a = cc in
-          rw (e, ← same) (record { free = m .free; cost = m .cost })
 
 -- ## Addresses taken
 
@@ -155,6 +136,48 @@ module _ (n : ℕ) where
 
     pub take-left-missed : (xs : List ℕ) (w : ℕ) → v .answer ≡ Nowhere → ahead xs w (view (takeLeft n k g s)) ≡ seen (taken (Stopped (NoSpare k)) xs) (w + v .writes) 0 (v .after)
     take-left-missed xs w h = ap (ahead xs w) (missed h) ∙ rw append-nil
+
+  -- an address that fails is passed over
+  module _ (k : ℕ) (g : Gap) (s : Chip) (some : 0 < sparesOf (kindOf k) g) (paired : Paired s) (failed : putAt (nextOf (kindOf k) g) (codeOf 0) s .answer ≡ false) where
+    abbrev first : Run Bool
+    first = putAt (nextOf (kindOf k) g) (codeOf 0) s
+
+    abbrev left : Gap
+    left = narrow (kindOf k) (nextOf (kindOf k) g) g
+
+    passed : (m : ℕ) → view (untried (takeFrom (suc m) k g s)) ≡ ahead [] (length (first .log)) (view (untried (takeFrom (suc m) k left (first .after))))
+    passed m = go (try-laws k left (codeOf 0) (first .after) (kept-paired (put-laws (nextOf (kindOf k) g) (codeOf 0) s paired .kept) paired) .trying)
+      where
+        go : Trying k left (codeOf 0) (first .after) → view (untried (takeFrom (suc m) k g s)) ≡ ahead [] (length (first .log)) (view (untried (takeFrom (suc m) k left (first .after))))
+        go (missing t) = unfold takeFrom tryAt in rw (spares-passed k g (codeOf 0) s some failed, t .nowhere, append-assoc, length-append (first .log) _)
+        go (landing t) = unfold takeFrom tryAt in rw (spares-passed k g (codeOf 0) s some failed, t .here, narrow-behind (kindOf k) g _ (t .place) (t .free), append-assoc, length-append (first .log) _)
+
+  module _ (k : ℕ) (g : Gap) (s : Chip) (inside : k < n) {at b : ℕ} (byte : b ≡ codeOf 0) (some : 0 < sparesOf (kindOf k) g) (here : at ≡ nextOf (kindOf k) g) {v : Seen Bool} (e : v ≡ view (putAt at b s)) where
+    put-said : v ≡ view (putAt (nextOf (kindOf k) g) (codeOf 0) s)
+    put-said = rw (here, byte) at e
+
+    pub take-left-held :
+        {rest : Gap} (addresses : List ℕ) (w : ℕ)
+        → k < length addresses
+        → v .answer ≡ true
+        → rest ≡ narrow (kindOf k) at g
+        → ahead (take k addresses) w (view (takeLeft n k g s)) ≡ ahead (take (k + 1) (set addresses k at)) (w + v .writes) (view (takeLeft n (k + 1) rest (v .after)))
+    take-left-held addresses w l h left = rw here (take-left-landed k g (codeOf 0) s inside refl (spares-held k g (codeOf 0) s some put-said h) addresses w l refl (rw here at left))
+
+    pub take-left-passed :
+        {rest : Gap} (xs : List ℕ) (w : ℕ)
+        → Paired s
+        → v .answer ≡ false
+        → rest ≡ narrow (kindOf k) at g
+        → ahead xs w (view (takeLeft n k g s)) ≡ ahead xs (w + v .writes) (view (takeLeft n k rest (v .after)))
+    take-left-passed xs w paired h left =
+        let more : n - k ≡ suc (n - (k + 1)) = omega arith in
+        let failed = said-answer (putAt (nextOf (kindOf k) g) (codeOf 0) s) put-said h in
+        rw (more, left, here, put-said) (ap (ahead xs w) (passed k g s some paired failed (n - (k + 1))) ∙ ahead-ahead xs [] w _ _ ∙ rw append-nil)
+
+  -- no spare is left
+  pub take-left-roomless : (k : ℕ) (g : Gap) (s : Chip) → k < n → sparesOf (kindOf k) g ≡ 0 → (xs : List ℕ) (w : ℕ) → ahead xs w (view (takeLeft n k g s)) ≡ seen (taken (Stopped (NoSpare k)) xs) w 0 s
+  take-left-roomless k g s inside none xs w = take-left-missed k g (codeOf 0) s inside refl (sym (spares-none k g (codeOf 0) s none)) xs w refl ∙ rw add-zero
 
 -- it asks at most one write for each cell of the gap
 pub take-few : (n k : ℕ) (g : Gap) (s : Chip) → Paired s → length (takeFrom n k g s .log) ≤ room g

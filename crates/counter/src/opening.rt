@@ -16,12 +16,14 @@ use super::map::Map;
 use super::map::offset_of;
 use super::places::Places;
 use super::spares::narrowed;
+use super::spares::next_of;
+use super::spares::spares_of;
 use super::spares::whole_area;
 use super::store::Stored;
 use super::store::mapped;
-use super::store::try_spares;
 use super::verdict::Refusal;
 use super::verdict::Work;
+use cells::put::put;
 use cells::row::Found;
 use cells::row::put_row;
 use code::codes::code_of;
@@ -34,7 +36,8 @@ struct Takings {
     writes: usize,
 }
 
-// 80 put for every slot, each at the next address of its kind that holds it.
+// 80 put for every slot, each at the next address of its kind that holds it. An address that does not is passed
+// over, as if it were taken.
 fn take_addresses(image: &mut [u8], lives: &mut [u32], p: Places) -> Takings
     requires { ⌜ fitted two p (chip (now image) (now lives)) ≡ true ⌝ }
     ensures { λ r. ⌜ seen (taken (r .work) (take (r .count) (r .addresses))) (r .writes) 0 (chip (now (image .exit)) (now (lives .exit))) ≡ view (untried (takeFrom 16 0 (wholeArea p) (chip (now (image .entry)) (now (lives .entry))))) ⌝ }
@@ -44,20 +47,22 @@ fn take_addresses(image: &mut [u8], lives: &mut [u32], p: Places) -> Takings
     let mut writes = 0;
     let mut slot = 0;
     while slot < Map::SLOTS {
-        let walked = try_spares(image, lives, slot, gap, code_of(0));
-        let found = walked.found;
-        writes += walked.writes;
-        let Found::At(a) = found else {
+        if spares_of(slot, gap) == 0 {
             return Takings {
                 work: Work::Stopped(Refusal::NoSpare(slot)),
                 addresses,
                 count: slot,
                 writes,
             };
-        };
-        addresses[slot] = a;
-        gap = narrowed(slot, a, gap);
-        slot += 1;
+        }
+        let at = next_of(slot, gap);
+        let done = put(image, lives, at, code_of(0));
+        writes += done.writes;
+        gap = narrowed(slot, at, gap);
+        if done.held {
+            addresses[slot] = at;
+            slot += 1;
+        }
     }
     Takings {
         work: Work::Done,
