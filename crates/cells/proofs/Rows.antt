@@ -2,7 +2,7 @@
 use Prim.Native.Nat.{ℕ, zero, suc, _+_, _≤_, _<_}
 use mathlib.Core.Path.{_≡_, refl, sym, _∙_}
 use mathlib.Core.Bool.{Bool, true, false}
-use mathlib.Core.List.{List, [], _∷_}
+use mathlib.Core.List.{List, [], _∷_, _++_, append-assoc}
 use native.Mathlib.Nat.{zero-add, add-zero, add-assoc}
 use native.Mathlib.Numerals.{add-one, one-add}
 use native.Mathlib.Omega.{arith}
@@ -162,6 +162,35 @@ row-alive (b ∷ bs) a s p f =
     let rest = row-alive bs (a + 1) (putAt a b s .after) (kept-paired k p) (λ j l. rw (k .life (a + 1 + j) (omega arith), add-assoc, one-add) (f (suc j) (omega arith))) in
     rw (put-laws a b s p .alive here) rest
 
+-- ## A row in two pieces
+
+module _ (cs : List ℕ) where
+  -- behind a row that holds, the second piece is put at the cells that come next
+  abbrev Behind : List ℕ → ℕ → Chip → Type 0
+  Behind bs a s = putRow bs a s .answer ≡ Nowhere → putRow (bs ++ cs) a s ≡ putRow bs a s then putRow cs (a + length bs) (putRow bs a s .after)
+
+  pub row-behind : (bs : List ℕ) (a : ℕ) (s : Chip) → Behind bs a s
+  unfolding putRow
+  row-behind [] a s = λ e. rw (add-zero, zero-add)
+  row-behind (b ∷ bs) a s = go (putAt a b s .answer) refl (row-behind bs (a + 1) (putAt a b s .after))
+    where
+      go : (t : Bool) → putAt a b s .answer ≡ t → Behind bs (a + 1) (putAt a b s .after) → Behind (b ∷ bs) a s
+      go true h later = rw h (λ e. let sum : a + suc (length bs) ≡ a + 1 + length bs = omega arith in rw (sum, later e, append-assoc, add-assoc (putAt a b s .tried) _ _))
+      go false h later = rw h (λ e. cc)
+
+  -- a row that stops is all there is
+  abbrev Alone : ℕ → List ℕ → ℕ → Chip → Type 0
+  Alone x bs a s = putRow bs a s .answer ≡ At x → putRow (bs ++ cs) a s ≡ putRow bs a s
+
+  pub row-alone : (x : ℕ) (bs : List ℕ) (a : ℕ) (s : Chip) → Alone x bs a s
+  unfolding putRow
+  row-alone x [] a s = λ e. absurd (nowhere≢at x e)
+  row-alone x (b ∷ bs) a s = go (putAt a b s .answer) refl (row-alone x bs (a + 1) (putAt a b s .after))
+    where
+      go : (t : Bool) → putAt a b s .answer ≡ t → Alone x bs (a + 1) (putAt a b s .after) → Alone x (b ∷ bs) a s
+      go true h later = rw h (λ e. rw (later e))
+      go false h later = rw h (λ e. refl)
+
 -- all that is claimed, where there are as many lives as cells
 pub row-laws : (bs : List ℕ) (a : ℕ) (s : Chip) → Paired s → RowLaws bs a s
 row-laws bs a s p = record {
@@ -185,6 +214,10 @@ module _ (b : ℕ) (bs : List ℕ) (a : ℕ) (s : Chip) {v : Seen Bool} (e : v �
   -- the first put failed
   pub row-stopped : v .answer ≡ false → view (putRow (b ∷ bs) a s) ≡ seen (At a) (v .writes) 0 (v .after)
   row-stopped h = rw (row-stop b bs a s (said-answer (putAt a b s) e h), put-tried a b s, e)
+
+-- a row says of at most one write a byte
+pub row-few : (bs : List ℕ) (a : ℕ) (s : Chip) {v : Seen Found} → v ≡ view (putRow bs a s) → v .writes ≤ length bs
+row-few bs a s e = rw e (row-cost bs a s)
 
 -- what is left of a row when i of its bytes have been put
 abbrev pub rowLeft : List ℕ → ℕ → ℕ → Chip → Run Found

@@ -16,6 +16,8 @@ pub mod Stores
 pub mod StoreViews
 pub mod StoreCosts
 pub mod Takes
+pub mod NextSpares
+pub mod PointerRows
 pub mod Openings
 pub mod OpeningViews
 pub mod NextStores

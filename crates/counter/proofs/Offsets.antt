@@ -1,7 +1,8 @@
 -- Where pointers lie in the map: each ends before the next begins, and the last inside the map.
 --   kind-low, kind-high       which slots are Low and which High
---   bytesOf, bytes-length     the bytes of a pointer of a kind
+--   bytesOf, bytes-some, bytes-length  the bytes of a pointer of a kind
 --   offset-first              a pointer lies behind the mark
+--   offset-next               a slot's pointer ends where the next slot's begins
 --   offset-before             a slot's pointer ends before any later slot's begins
 --   offset-inside             it ends inside the map
 --   first-inside              its first byte is inside
@@ -36,6 +37,11 @@ unfoldable pub bytesOf : Kind → ℕ
 bytesOf Low = 2
 bytesOf High = 1
 
+pub bytes-some : (kind : Kind) → 1 ≤ bytesOf kind
+unfolding bytesOf
+bytes-some Low = omega arith
+bytes-some High = omega arith
+
 pub bytes-length : (kind : Kind) (a : ℕ) → length (pointerBytes kind a) ≡ bytesOf kind
 unfolding pointerBytes bytesOf
 bytes-length Low a = refl
@@ -62,6 +68,15 @@ offset-first k = go (lies k)
     go : Lies k → 2 ≤ offsetOf k
     go (low h kind at size) = omega arith
     go (high h kind at size) = omega arith
+
+pub offset-next : (k : ℕ) → offsetOf (k + 1) ≡ offsetOf k + bytesOf (kindOf k)
+offset-next k = go (lies k) (lies (k + 1))
+  where
+    go : Lies k → Lies (k + 1) → offsetOf (k + 1) ≡ offsetOf k + bytesOf (kindOf k)
+    go (low h kind at size) (low h′ kind′ at′ size′) = omega arith
+    go (low h kind at size) (high h′ kind′ at′ size′) = let same : (k + 1) / 8 ≡ k / 8 = omega arith in omega arith
+    go (high h kind at size) (low h′ kind′ at′ size′) = let next : (k + 1) / 8 ≡ k / 8 + 1 = omega arith in omega arith
+    go (high h kind at size) (high h′ kind′ at′ size′) = omega arith
 
 -- an earlier slot is in an earlier copy, or lower in the same
 earlier : (j k : ℕ) → j < k → ((j / 8 ≡ k / 8) × (j % 8 < k % 8)) ⊎ (j / 8 < k / 8)

@@ -2,32 +2,32 @@
 --   ready-same                a chip of the same lengths is as ready
 --   whole-fits, narrow-fits   the gaps of a first opening fit the image
 --   said-done, said-stopped   one piece of storing and then another, by how the first ended
---   Lands, try-lands          where spares tried for a slot landed, and what that costs
 --   ahead                     addresses and writes in front of a taking
 --   takeLeft, take-left-..    what is left of taking addresses
 --   take-few                  it asks at most one write for each cell of the gap
---   pointersLeft, pointers-left-..  what is left of putting pointers
---   pointers-few              it asks at most two writes a pointer
 --   mark-said, mark-few       the mark
---   opening-roomless, opening-unmapped, opening-mapped  the whole, by where it ended
+--   map-stopped, map-marked, map-few  the map, by where its pointers ended, and what it asks
+--   opening-roomless, opening-mapped  the whole, by where it ended
 --   taken-whole, taken-reach, taking-few  the addresses taken are sixteen pointers, taken at few writes
 use Prim.Native.Nat.{ℕ, zero, suc, _+_, _-_, _*_, _≤_, _<_}
 use mathlib.Core.Path.{_≡_, refl, sym, ap, _∙_}
-use mathlib.Core.Bool.{true}
+use mathlib.Core.Bool.{Bool, true, false}
 use mathlib.Core.List.{List, [], _∷_, _++_, append-assoc, append-nil}
 use native.Mathlib.Nat.{add-zero, zero-add, add-assoc, sub-zero, sub-self}
 use native.Mathlib.Numerals.{add-one}
 use native.Mathlib.Omega.{arith}
-use lib.ListN.{length, getD, take, drop, set, length-append, length-take}
-use lib.Seq.{take-all, take-suc-set, drop-cons, drop-length}
+use lib.ListN.{length, getD, take, set, length-append, length-take}
+use lib.Seq.{take-all, take-suc-set}
 use Rattle.code.specs.Codes.{codeOf}
 use Rattle.cells.specs.declared.row.Found.{Found}
 use Rattle.cells.specs.declared.row.Found.the-variants.{At, Nowhere}
 use Rattle.cells.specs.Chip.{Chip, Paired}
 use Rattle.cells.specs.Run.{Run, Seen, seen, view, plus, _giving_}
-use Rattle.cells.specs.Row.{putRow}
-use Rattle.cells.proofs.Views.{plus-plus, said-then, said-answer}
+use Rattle.cells.specs.Put.{putAt}
+use Rattle.cells.specs.Row.{tryAt, putRow}
+use Rattle.cells.proofs.Views.{said-then, said-answer}
 use Rattle.cells.proofs.Writes.{kept-paired}
+use Rattle.cells.proofs.Puts.{put-laws}
 use Rattle.cells.proofs.Rows.{row-tried, row-cost}
 use Rattle.counter.specs.declared.map.Kind.{Kind}
 use Rattle.counter.specs.declared.map.Kind.the-variants.{High, Low}
@@ -36,13 +36,13 @@ use Rattle.counter.specs.declared.spares.Gap.{Gap}
 use Rattle.counter.specs.declared.verdict.Work.{Work}
 use Rattle.counter.specs.declared.verdict.Work.the-variants.{Done, Stopped}
 use Rattle.counter.specs.declared.verdict.Refusal.{Refusal}
-use Rattle.counter.specs.declared.verdict.Refusal.the-variants.{NoSpare}
+use Rattle.counter.specs.declared.verdict.Refusal.the-variants.{NoSpare, MapByte}
 use Rattle.counter.specs.Slots.{two, kindOf}
-use Rattle.counter.specs.Map.{markBytes, reachable, listed}
-use Rattle.counter.specs.Spares.{wholeArea, narrow}
+use Rattle.counter.specs.Map.{offsetIn, offsetOf, markBytes, reachable, listed}
+use Rattle.counter.specs.Spares.{wholeArea, narrow, nextOf, sparesOf}
 use Rattle.counter.specs.Verdict.{_andThen_}
 use Rattle.counter.specs.Store.{trySpares, putPointer, mapped}
-use Rattle.counter.specs.Opening.{Taken, taken, takeFrom, putPointers, putMark, untried, firstOpening}
+use Rattle.counter.specs.Opening.{Taken, taken, takeFrom, pointerRow, putPointers, putMark, untried, firstOpening}
 use Rattle.counter.proofs.SoundPointers.{sound-none, reach-test}
 use Rattle.counter.proofs.Gaps.{Free, between-none}
 use Rattle.counter.proofs.Ready.{Ready, ready-placed}
@@ -51,7 +51,9 @@ use Rattle.counter.proofs.Tries.{room, Landing, Trying, Trying.missing,
 use Rattle.counter.proofs.Stores.{done-then, stopped-then}
 use Rattle.counter.proofs.StoreViews.{pointer-tried, GapFits}
 use Rattle.counter.proofs.StoreCosts.{pointer-few}
+use Rattle.counter.proofs.NextSpares.{narrow-behind, spares-none, spares-held, spares-passed}
 use Rattle.counter.proofs.Takes.{AllTaken, take-laws}
+use Rattle.counter.proofs.PointerRows.{pointers-row}
 
 -- ## Settings
 
@@ -89,27 +91,6 @@ then-few {m} {n} r work one rest = go (r .answer) refl
     go : (w : Work) → r .answer ≡ w → Few (m + n) (view (r andThen work))
     go Done h = rw (done-then r work h, length-append) (omega arith)
     go (Stopped why) h = rw (stopped-then r work why h) (omega arith)
-
--- ## Spares tried
-
--- an address free in the gap, and what it leaves of the gap is paid for
-pub record Lands (k : ℕ) (g : Gap) (a writes : ℕ) : Type 0 where
-  pub free : Free (kindOf k) g a
-  pub cost : writes + room (narrow (kindOf k) a g) ≤ room g
-
-module _ (k : ℕ) (g : Gap) (b : ℕ) (s : Chip) {v : Seen Found} (e : v ≡ view (trySpares k g b s)) where
-  pub try-lands : Paired s → {a : ℕ} → v .answer ≡ At a → Lands k g a (v .writes)
-  try-lands paired {a} h = go (try-laws k g b s paired .trying)
-    where
-      here : trySpares k g b s .answer ≡ At a
-      here = said-answer (trySpares k g b s) e h
-
-      go : Trying k g b s → Lands k g a (v .writes)
-      go (missing m) = let q = m .nowhere in let z : _≡_ {A = ℕ} 0 1 = cc in absurd (omega arith)
-      go (landing m) =
-          let q = m .here in
-          let same : m .place ≡ a = cc in
-          rw (e, ← same) (record { free = m .free; cost = m .cost })
 
 -- ## Addresses taken
 
@@ -156,6 +137,48 @@ module _ (n : ℕ) where
     pub take-left-missed : (xs : List ℕ) (w : ℕ) → v .answer ≡ Nowhere → ahead xs w (view (takeLeft n k g s)) ≡ seen (taken (Stopped (NoSpare k)) xs) (w + v .writes) 0 (v .after)
     take-left-missed xs w h = ap (ahead xs w) (missed h) ∙ rw append-nil
 
+  -- an address that fails is passed over
+  module _ (k : ℕ) (g : Gap) (s : Chip) (some : 0 < sparesOf (kindOf k) g) (paired : Paired s) (failed : putAt (nextOf (kindOf k) g) (codeOf 0) s .answer ≡ false) where
+    abbrev first : Run Bool
+    first = putAt (nextOf (kindOf k) g) (codeOf 0) s
+
+    abbrev left : Gap
+    left = narrow (kindOf k) (nextOf (kindOf k) g) g
+
+    passed : (m : ℕ) → view (untried (takeFrom (suc m) k g s)) ≡ ahead [] (length (first .log)) (view (untried (takeFrom (suc m) k left (first .after))))
+    passed m = go (try-laws k left (codeOf 0) (first .after) (kept-paired (put-laws (nextOf (kindOf k) g) (codeOf 0) s paired .kept) paired) .trying)
+      where
+        go : Trying k left (codeOf 0) (first .after) → view (untried (takeFrom (suc m) k g s)) ≡ ahead [] (length (first .log)) (view (untried (takeFrom (suc m) k left (first .after))))
+        go (missing t) = unfold takeFrom tryAt in rw (spares-passed k g (codeOf 0) s some failed, t .nowhere, append-assoc, length-append (first .log) _)
+        go (landing t) = unfold takeFrom tryAt in rw (spares-passed k g (codeOf 0) s some failed, t .here, narrow-behind (kindOf k) g _ (t .place) (t .free), append-assoc, length-append (first .log) _)
+
+  module _ (k : ℕ) (g : Gap) (s : Chip) (inside : k < n) {at b : ℕ} (byte : b ≡ codeOf 0) (some : 0 < sparesOf (kindOf k) g) (here : at ≡ nextOf (kindOf k) g) {v : Seen Bool} (e : v ≡ view (putAt at b s)) where
+    put-said : v ≡ view (putAt (nextOf (kindOf k) g) (codeOf 0) s)
+    put-said = rw (here, byte) at e
+
+    pub take-left-held :
+        {rest : Gap} (addresses : List ℕ) (w : ℕ)
+        → k < length addresses
+        → v .answer ≡ true
+        → rest ≡ narrow (kindOf k) at g
+        → ahead (take k addresses) w (view (takeLeft n k g s)) ≡ ahead (take (k + 1) (set addresses k at)) (w + v .writes) (view (takeLeft n (k + 1) rest (v .after)))
+    take-left-held addresses w l h left = rw here (take-left-landed k g (codeOf 0) s inside refl (spares-held k g (codeOf 0) s some put-said h) addresses w l refl (rw here at left))
+
+    pub take-left-passed :
+        {rest : Gap} (xs : List ℕ) (w : ℕ)
+        → Paired s
+        → v .answer ≡ false
+        → rest ≡ narrow (kindOf k) at g
+        → ahead xs w (view (takeLeft n k g s)) ≡ ahead xs (w + v .writes) (view (takeLeft n k rest (v .after)))
+    take-left-passed xs w paired h left =
+        let more : n - k ≡ suc (n - (k + 1)) = omega arith in
+        let failed = said-answer (putAt (nextOf (kindOf k) g) (codeOf 0) s) put-said h in
+        rw (more, left, here, put-said) (ap (ahead xs w) (passed k g s some paired failed (n - (k + 1))) ∙ ahead-ahead xs [] w _ _ ∙ rw append-nil)
+
+  -- no spare is left
+  pub take-left-roomless : (k : ℕ) (g : Gap) (s : Chip) → k < n → sparesOf (kindOf k) g ≡ 0 → (xs : List ℕ) (w : ℕ) → ahead xs w (view (takeLeft n k g s)) ≡ seen (taken (Stopped (NoSpare k)) xs) w 0 s
+  take-left-roomless k g s inside none xs w = take-left-missed k g (codeOf 0) s inside refl (sym (spares-none k g (codeOf 0) s none)) xs w refl ∙ rw add-zero
+
 -- it asks at most one write for each cell of the gap
 pub take-few : (n k : ℕ) (g : Gap) (s : Chip) → Paired s → length (takeFrom n k g s .log) ≤ room g
 unfolding takeFrom
@@ -168,39 +191,7 @@ take-few (suc n) k g s paired = go (try-laws k g (codeOf 0) s paired .trying) (�
     go (missing m) later = unfold takeFrom in (let h = m .cost in rw (m .nowhere, length-append) (omega arith))
     go (landing m) later = unfold takeFrom in (let h = m .cost in let h′ = later m in rw (m .here, length-append) (omega arith))
 
--- ## Pointers put
-
--- what is left of putting addresses as pointers when k of them have been put
-abbrev pub pointersLeft : List ℕ → ℕ → Places → Chip → Run Work
-pointersLeft addresses k p s = putPointers (drop k addresses) k p s
-
-module _ (addresses : List ℕ) (p : Places) where
-  pub pointers-left-all : (s : Chip) → view (putPointers addresses 0 p s) ≡ plus 0 0 (view (pointersLeft addresses 0 p s))
-  pointers-left-all s = simp zero-add
-
-  pub pointers-left-none : (w k : ℕ) (s : Chip) → k ≡ length addresses → plus w 0 (view (pointersLeft addresses k p s)) ≡ seen Done w 0 s
-  unfolding putPointers
-  pointers-left-none w k s e = rw (e, drop-length addresses, add-zero w)
-
-  module _ (k : ℕ) (s : Chip) (inside : k < length addresses) {v : Seen Work} (e : v ≡ view (putPointer p k (getD addresses k 0) s)) where
-    abbrev one : Run Work
-    one = putPointer p k (getD addresses k 0) s
-
-    abbrev rest : Chip → Run Work
-    rest = putPointers (drop (k + 1) addresses) (k + 1) p
-
-    here : pointersLeft addresses k p s ≡ one andThen rest
-    unfolding putPointers
-    here = rw (drop-cons addresses k 0, add-one k)
-
-    none : v .tried ≡ 0
-    none = ap (λ (u : Seen Work). u .tried) e ∙ pointer-tried p k (getD addresses k 0) s
-
-    pub pointers-left-put : v .answer ≡ Done → view (pointersLeft addresses k p s) ≡ plus (v .writes) 0 (view (pointersLeft addresses (k + 1) p (v .after)))
-    pointers-left-put h = ap view here ∙ said-done one rest e h ∙ ap (λ (t : ℕ). plus (v .writes) t (view (rest (v .after)))) none
-
-    pub pointers-left-stopped : {why : Refusal} → v .answer ≡ Stopped why → view (pointersLeft addresses k p s) ≡ seen (Stopped why) (v .writes) 0 (v .after)
-    pointers-left-stopped {why} h = ap view here ∙ said-stopped one rest e h ∙ ap (λ (t : ℕ). seen (Stopped why) (v .writes) t (v .after)) none
+-- ## The map
 
 pointers-cost : (addresses : List ℕ) (k : ℕ) (p : Places) (s : Chip) → Few (2 * length addresses) (view (putPointers addresses k p s))
 unfolding putPointers
@@ -209,11 +200,6 @@ pointers-cost (a ∷ rest) k p s =
     let sum : 2 * suc (length rest) ≡ 2 + 2 * length rest = omega arith in
     rw sum (then-few (putPointer p k a s) (putPointers rest (k + 1) p) (pointer-few p k a s refl, pointer-tried p k a s) (pointers-cost rest (k + 1) p (putPointer p k a s .after)))
 
-pub pointers-few : (addresses : List ℕ) (k : ℕ) (p : Places) (s : Chip) {v : Seen Work} → v ≡ view (putPointers addresses k p s) → (v .writes ≤ 2 * length addresses) × (v .tried ≡ 0)
-pointers-few addresses k p s e = rw e (pointers-cost addresses k p s)
-
--- ## The mark
-
 pub mark-said : (p : Places) (s : Chip) {v : Seen Found} → v ≡ view (putRow markBytes (p .map) s) → view (putMark p s) ≡ seen (mapped (v .answer)) (v .writes) (v .tried) (v .after)
 unfolding putMark
 mark-said p s e = rw e
@@ -221,6 +207,34 @@ mark-said p s e = rw e
 pub mark-few : (p : Places) (s : Chip) {v : Seen Work} → v ≡ view (putMark p s) → (v .writes ≤ 2) × (v .tried ≡ 0)
 unfolding putMark
 mark-few p s e = rw e (row-cost markBytes (p .map) s, row-tried markBytes (p .map) s)
+
+module _ (addresses : List ℕ) (p : Places) (s : Chip) where
+  abbrev mapping : Run Work
+  mapping = putPointers addresses 0 p s andThen putMark p
+
+  pub map-few : {v : Seen Work} → v ≡ view mapping → (v .writes ≤ 2 * length addresses + 2) × (v .tried ≡ 0)
+  map-few e = rw e (then-few (putPointers addresses 0 p s) (putMark p) (pointers-cost addresses 0 p s) (mark-few p (putPointers addresses 0 p s .after) refl))
+
+  module _ {v : Seen Found} (e : v ≡ view (putRow (pointerRow addresses 0) (p .map + 2) s)) where
+    -- what is said of the row, said of the pointers
+    said-pointers : seen (mapped (v .answer)) (v .writes) (v .tried) (v .after) ≡ view (putPointers addresses 0 p s)
+    unfolding offsetOf offsetIn
+    said-pointers = rw (pointers-row addresses 0 p s, e)
+
+    none : v .tried ≡ 0
+    none = ap (λ (u : Seen Found). u .tried) e ∙ row-tried (pointerRow addresses 0) (p .map + 2) s
+
+    pub map-stopped : {a : ℕ} → v .answer ≡ At a → view mapping ≡ seen (Stopped (MapByte a)) (v .writes) 0 (v .after)
+    unfolding mapped
+    map-stopped {a} h = said-stopped (putPointers addresses 0 p s) (putMark p) said-pointers {why = MapByte a} (rw h) ∙ rw none
+
+    pub map-marked : v .answer ≡ Nowhere → {m : Seen Work} → m ≡ view (putMark p (v .after)) → view mapping ≡ seen (m .answer) (v .writes + m .writes) 0 (m .after)
+    unfolding mapped
+    map-marked h {m} d =
+        let silent : v .tried + m .tried ≡ 0 = omega (arith, none, mark-few p (v .after) d .1) in
+        said-done (putPointers addresses 0 p s) (putMark p) said-pointers (rw h)
+        ∙ ap (plus (v .writes) (v .tried)) (sym d)
+        ∙ ap (λ (t : ℕ). seen (m .answer) (v .writes + m .writes) t (m .after)) silent
 
 -- ## The whole
 
@@ -239,32 +253,16 @@ module _ (p : Places) (s : Chip) {v : Seen Taken} (e : v ≡ view (untried (take
   unfolding firstOpening
   opening-roomless h = said-stopped (taking giving taking .answer .work) (λ t. putPointers (taking .answer .addresses) 0 p t andThen putMark p) {v = saidTaking} (rw e) h
 
-  module _ (h : v .answer .work ≡ Done) {addresses : List ℕ} (whole : v .answer .addresses ≡ addresses) {w : Seen Work} (f : w ≡ view (putPointers addresses 0 p (v .after))) where
-    abbrev pointing : Run Work
-    pointing = putPointers addresses 0 p (v .after)
-
-    mapping : view (firstOpening two p s) ≡ plus (v .writes) (v .tried) (view (pointing andThen putMark p))
-    mapping = rw (← whole) (opening-taken h)
-
-    none-taking : v .tried ≡ 0
-    none-taking = ap (λ (u : Seen Taken). u .tried) e
-
-    none-pointing : w .tried ≡ 0
-    none-pointing = pointers-few addresses 0 p (v .after) f .1
-
-    pub opening-unmapped : {why : Refusal} → w .answer ≡ Stopped why → view (firstOpening two p s) ≡ seen (Stopped why) (v .writes + w .writes) 0 (w .after)
-    opening-unmapped {why} g =
-        let none : v .tried + w .tried ≡ 0 = omega (arith, none-taking, none-pointing) in
-        mapping ∙ ap (plus (v .writes) (v .tried)) (said-stopped pointing (putMark p) f g) ∙ ap (λ (t : ℕ). seen (Stopped why) (v .writes + w .writes) t (w .after)) none
-
-    pub opening-mapped : w .answer ≡ Done → {m : Seen Work} → m ≡ view (putMark p (w .after)) → view (firstOpening two p s) ≡ seen (m .answer) (v .writes + w .writes + m .writes) 0 (m .after)
-    opening-mapped g {m} d =
-        let none : v .tried + w .tried + m .tried ≡ 0 = omega (arith, none-taking, none-pointing, mark-few p (w .after) d .1) in
-        mapping
-        ∙ ap (plus (v .writes) (v .tried)) (said-done pointing (putMark p) f g)
-        ∙ plus-plus (v .writes) (v .tried) (w .writes) (w .tried) (view (putMark p (w .after)))
-        ∙ ap (plus (v .writes + w .writes) (v .tried + w .tried)) (sym d)
-        ∙ ap (λ (t : ℕ). seen (m .answer) (v .writes + w .writes + m .writes) t (m .after)) none
+  pub opening-mapped :
+      v .answer .work ≡ Done → {addresses : List ℕ} → v .answer .addresses ≡ addresses
+      → {w : Seen Work} → w ≡ view (mapping addresses p (v .after))
+      → view (firstOpening two p s) ≡ seen (w .answer) (v .writes + w .writes) 0 (w .after)
+  opening-mapped h {addresses} whole {w} f =
+      let silent : v .tried + w .tried ≡ 0 = omega (arith, ap (λ (u : Seen Taken). u .tried) e, map-few addresses p (v .after) f .1) in
+      opening-taken h
+      ∙ ap (λ (xs : List ℕ). plus (v .writes) (v .tried) (view (mapping xs p (v .after)))) whole
+      ∙ ap (plus (v .writes) (v .tried)) (sym f)
+      ∙ ap (λ (t : ℕ). seen (w .answer) (v .writes + w .writes) t (w .after)) silent
 
   module _ (ready : Ready two p s) (h : v .answer .work ≡ Done) where
     all : AllTaken 16 0 (wholeArea p) (takeFrom 16 0 (wholeArea p) s)

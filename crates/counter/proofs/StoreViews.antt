@@ -1,7 +1,6 @@
 -- What is said of storing, one law a turn, over what functions have said of its pieces, `v` and `u`.
 --   low-pointer, high-pointer the bytes of a pointer were put, by its slot's kind
 --   pointer-tried             a pointer tries no spare
---   low-spares, high-near, high-far  the spares of a slot, as a row of cells
 --   GapFits, gap-fits         the gap that a fitting chip's pointers leave
 --   SpareHeld, spare-held     what a spare that holds leaves for the pointer
 --   move-nowhere, move-at     a byte was moved, by what was found
@@ -9,21 +8,20 @@
 --   slot-same                 a put that fails leaves the chip as it was
 --   slot-settled, store-settled  work that is done leaves a fitting chip with a sound map
 --   storeLeft, store-left-all, store-left-none, store-left-done, store-left-stopped  what is left of a store
-use Prim.Native.Nat.{ℕ, suc, _+_, _-_, _/_, _%_, _≤_, _<_, min}
+use Prim.Native.Nat.{ℕ, suc, _+_, _-_, _/_, _%_, _≤_, _<_}
 use mathlib.Core.Path.{_≡_, sym, ap, _∙_}
 use mathlib.Core.Bool.{Bool, true, false}
 use mathlib.Core.List.{[], _∷_}
 use native.Mathlib.Nat.{zero-add, add-zero, sub-zero, sub-self}
 use native.Mathlib.Omega.{arith}
 use lib.ListN.{length}
-use Rattle.cells.specs.declared.row.Way.the-variants.{Up, Down}
 use Rattle.cells.specs.declared.row.Found.{Found}
 use Rattle.cells.specs.declared.row.Found.the-variants.{At, Nowhere}
 use Rattle.cells.specs.Chip.{Chip, Paired}
 use Rattle.cells.specs.Run.{Run, Seen, seen, view, plus, still}
 use Rattle.cells.specs.Log.{Within}
 use Rattle.cells.specs.Put.{putAt}
-use Rattle.cells.specs.Row.{walk, putRow}
+use Rattle.cells.specs.Row.{putRow}
 use Rattle.cells.proofs.Views.{said-then, said-giving, said-answer, said-after}
 use Rattle.cells.proofs.Logs.{within-kept}
 use Rattle.cells.proofs.Puts.{put-tried, put-laws}
@@ -37,7 +35,6 @@ use Rattle.counter.specs.declared.verdict.Refusal.the-variants.{NoSpare}
 use Rattle.counter.specs.Slots.{slots, kindOf}
 use Rattle.counter.specs.Places.{fitted}
 use Rattle.counter.specs.Map.{offsetOf, pointerBytes, reachable, sound}
-use Rattle.counter.specs.Spares.{wayOf, nextOf, sparesOf}
 use Rattle.counter.specs.Verdict.{_andThen_}
 use Rattle.counter.specs.Store.{mapped, putPointer, trySpares, moveSlot, slotCode, storeSlot, storeFrom, store}
 use Rattle.counter.proofs.Offsets.{kind-low, kind-high}
@@ -63,24 +60,6 @@ module _ (p : Places) (k a at : ℕ) (s : Chip) {v : Seen Found} (here : at ≡ 
 pub pointer-tried : (p : Places) (k a : ℕ) (s : Chip) → putPointer p k a s .tried ≡ 0
 unfolding putPointer
 pointer-tried p k a s = row-tried (pointerBytes (kindOf k) a) (p .map + offsetOf k) s
-
--- ## The spares of a slot, tried along a row
-
-module _ (k : ℕ) (g : Gap) (b : ℕ) (s : Chip) where
-  pub low-spares : k % 8 < 3 → trySpares k g b s ≡ walk (g .low - g .high) Down (g .low - 1) b s
-  unfolding trySpares sparesOf wayOf nextOf
-  low-spares h = rw (kind-low k h)
-
-  module _ (h : 3 ≤ k % 8) where
-    high-spares : trySpares k g b s ≡ walk (min 256 (g .low) - g .high) Up (g .high) b s
-    unfolding trySpares sparesOf wayOf nextOf
-    high-spares = rw (kind-high k h)
-
-    pub high-near : g .low < 256 → trySpares k g b s ≡ walk (g .low - g .high) Up (g .high) b s
-    high-near l = let e : min 256 (g .low) ≡ g .low = omega arith in high-spares ∙ rw e
-
-    pub high-far : 256 ≤ g .low → trySpares k g b s ≡ walk (256 - g .high) Up (g .high) b s
-    high-far l = let e : min 256 (g .low) ≡ 256 = omega arith in high-spares ∙ rw e
 
 -- ## The gap that a fitting chip's pointers leave
 

@@ -10,17 +10,20 @@ ghost use Rattle.counter.specs.Slots.{two, kindOf};
 ghost use Rattle.counter.specs.Places.{fitted};
 ghost use Rattle.counter.specs.Map.{reachable};
 ghost use Rattle.counter.specs.Spares.{wholeArea};
-ghost use Rattle.counter.specs.Opening.{taken, takeFrom, putPointers, putMark, untried, firstOpening};
+ghost use Rattle.counter.specs.Verdict.{_andThen_};
+ghost use Rattle.counter.specs.Opening.{taken, takeFrom, pointerRow, putPointers, putMark, untried, firstOpening};
 use super::map::Map;
+use super::map::offset_of;
 use super::places::Places;
 use super::spares::narrowed;
+use super::spares::next_of;
+use super::spares::spares_of;
 use super::spares::whole_area;
 use super::store::Stored;
 use super::store::mapped;
-use super::store::put_pointer;
-use super::store::try_spares;
 use super::verdict::Refusal;
 use super::verdict::Work;
+use cells::put::put;
 use cells::row::Found;
 use cells::row::put_row;
 use code::codes::code_of;
@@ -33,7 +36,8 @@ struct Takings {
     writes: usize,
 }
 
-// 80 put for every slot, each at the next address of its kind that holds it.
+// 80 put for every slot, each at the next address of its kind that holds it. An address that does not is passed
+// over, as if it were taken.
 fn take_addresses(image: &mut [u8], lives: &mut [u32], p: Places) -> Takings
     requires { ⌜ fitted two p (chip (now image) (now lives)) ≡ true ⌝ }
     ensures { λ r. ⌜ seen (taken (r .work) (take (r .count) (r .addresses))) (r .writes) 0 (chip (now (image .exit)) (now (lives .exit))) ≡ view (untried (takeFrom 16 0 (wholeArea p) (chip (now (image .entry)) (now (lives .entry))))) ⌝ }
@@ -43,20 +47,22 @@ fn take_addresses(image: &mut [u8], lives: &mut [u32], p: Places) -> Takings
     let mut writes = 0;
     let mut slot = 0;
     while slot < Map::SLOTS {
-        let walked = try_spares(image, lives, slot, gap, code_of(0));
-        let found = walked.found;
-        writes += walked.writes;
-        let Found::At(a) = found else {
+        if spares_of(slot, gap) == 0 {
             return Takings {
                 work: Work::Stopped(Refusal::NoSpare(slot)),
                 addresses,
                 count: slot,
                 writes,
             };
-        };
-        addresses[slot] = a;
-        gap = narrowed(slot, a, gap);
-        slot += 1;
+        }
+        let at = next_of(slot, gap);
+        let done = put(image, lives, at, code_of(0));
+        writes += done.writes;
+        gap = narrowed(slot, at, gap);
+        if done.held {
+            addresses[slot] = at;
+            slot += 1;
+        }
     }
     Takings {
         work: Work::Done,
@@ -66,31 +72,23 @@ fn take_addresses(image: &mut [u8], lives: &mut [u32], p: Places) -> Takings
     }
 }
 
-// Addresses put as the pointers of all slots, in order.
-fn put_pointers(image: &mut [u8], lives: &mut [u32], p: Places, addresses: &[usize; 16]) -> Stored
-    requires { ⌜ (fitted two p (chip (now image) (now lives)) ≡ true) × (length (now addresses) ≡ 16) × ((k : ℕ) → k < 16 → (getD (now addresses) k 0 < 65536) × (reachable (kindOf k) (getD (now addresses) k 0) ≡ true)) ⌝ }
-    ensures { λ r. ⌜ seen (r .work) (r .writes) (r .tried) (chip (now (image .exit)) (now (lives .exit))) ≡ view (putPointers (now (addresses .entry)) 0 p (chip (now (image .entry)) (now (lives .entry)))) ⌝ }
+// The bytes that hold addresses as the pointers of all slots, in order.
+fn pointer_row(addresses: &[usize; 16]) -> [u8; 22]
+    requires { ⌜ (length (now addresses) ≡ 16) × ((k : ℕ) → k < 16 → (getD (now addresses) k 0 < 65536) × (reachable (kindOf k) (getD (now addresses) k 0) ≡ true)) ⌝ }
+    ensures { λ r. ⌜ r ≡ pointerRow (now (addresses .entry)) 0 ⌝ }
 {
-    let mut writes = 0;
+    let mut bytes = [0u8; 22];
     let mut slot = 0;
     while slot < Map::SLOTS {
-        let done = put_pointer(image, lives, p, slot, addresses[slot]);
-        let work = done.work;
-        writes += done.writes;
-        if let Work::Stopped(why) = work {
-            return Stored {
-                work: Work::Stopped(why),
-                writes,
-                tried: 0,
-            };
+        let at = offset_of(slot) - Map::FIRST_COPY;
+        let a = addresses[slot];
+        bytes[at] = (a % 256) as u8;
+        if slot % 8 < 3 {
+            bytes[at + 1] = (a / 256) as u8;
         }
         slot += 1;
     }
-    Stored {
-        work: Work::Done,
-        writes,
-        tried: 0,
-    }
+    bytes
 }
 
 // The mark, A5 and then 5A.
@@ -100,6 +98,30 @@ fn put_mark(image: &mut [u8], lives: &mut [u32], p: Places) -> Stored
 {
     let mark = [Map::MARK_FIRST, Map::MARK_SECOND];
     mapped(put_row(image, lives, p.map, &mark))
+}
+
+// The map: addresses put as the pointers of all slots, as one row of bytes, and then the mark.
+fn put_map(image: &mut [u8], lives: &mut [u32], p: Places, addresses: &[usize; 16]) -> Stored
+    requires { ⌜ (fitted two p (chip (now image) (now lives)) ≡ true) × (length (now addresses) ≡ 16) × ((k : ℕ) → k < 16 → (getD (now addresses) k 0 < 65536) × (reachable (kindOf k) (getD (now addresses) k 0) ≡ true)) ⌝ }
+    ensures { λ r. ⌜ seen (r .work) (r .writes) (r .tried) (chip (now (image .exit)) (now (lives .exit))) ≡ view (putPointers (now (addresses .entry)) 0 p (chip (now (image .entry)) (now (lives .entry))) andThen putMark p) ⌝ }
+{
+    let bytes = pointer_row(addresses);
+    let row = put_row(image, lives, p.map + Map::FIRST_COPY, &bytes);
+    let failed = row.failed;
+    if let Found::At(address) = failed {
+        return Stored {
+            work: Work::Stopped(Refusal::MapByte(address)),
+            writes: row.writes,
+            tried: 0,
+        };
+    }
+    let mark = put_mark(image, lives, p);
+    let work = mark.work;
+    Stored {
+        work,
+        writes: row.writes + mark.writes,
+        tried: 0,
+    }
 }
 
 // All of it, up to what stops it.
@@ -117,21 +139,11 @@ pub fn open_first(image: &mut [u8], lives: &mut [u32], p: Places) -> Stored
             tried: 0,
         };
     }
-    let put = put_pointers(image, lives, p, &addresses);
-    let work = put.work;
-    let writes = takings.writes + put.writes;
-    if let Work::Stopped(why) = work {
-        return Stored {
-            work: Work::Stopped(why),
-            writes,
-            tried: 0,
-        };
-    }
-    let mark = put_mark(image, lives, p);
-    let work = mark.work;
+    let map = put_map(image, lives, p, &addresses);
+    let work = map.work;
     Stored {
         work,
-        writes: writes + mark.writes,
+        writes: takings.writes + map.writes,
         tried: 0,
     }
 }

@@ -1,13 +1,14 @@
 // The cells not yet taken (document 01, "The map").
 ghost use mathlib.Core.Path.{_≡_};
-ghost use Prim.Native.Nat.{_<_};
+ghost use Prim.Native.Nat.{_+_, _≤_, _<_};
 ghost use lib.ListN.{length};
 ghost use Rattle.counter.specs.Slots.{two, kindOf};
 ghost use Rattle.counter.specs.Map.{pointerOf};
-ghost use Rattle.counter.specs.Spares.{wholeArea, narrow, gapOf, mayTry};
+ghost use Rattle.counter.specs.Spares.{wholeArea, narrow, gapOf, mayTry, wayOf, nextOf, sparesOf};
 use super::map::Map;
 use super::map::pointer_of;
 use super::places::Places;
+use cells::row::Way;
 
 // The next High address, and the lowest Low pointer: the cell past the area's end before any is taken.
 pub struct Gap {
@@ -47,6 +48,41 @@ pub fn narrowed(slot: usize, a: usize, g: Gap) -> Gap
         };
     }
     g
+}
+
+// Which way the spares of a slot are tried.
+pub fn way_of(slot: usize) -> Way
+    ensures { λ r. ⌜ r ≡ wayOf (kindOf slot) ⌝ }
+{
+    if slot % 8 < 3 {
+        return Way::Down;
+    }
+    Way::Up
+}
+
+// The next address for a slot.
+pub fn next_of(slot: usize, g: Gap) -> usize
+    requires { ⌜ 1 ≤ g .low ⌝ }
+    ensures { λ r. ⌜ r ≡ nextOf (kindOf slot) g ⌝ }
+{
+    if slot % 8 < 3 {
+        return g.low - 1;
+    }
+    g.high
+}
+
+// How many cells from the next address on may be tried for a slot.
+pub fn spares_of(slot: usize, g: Gap) -> usize
+    requires { ⌜ (g .high ≤ 256) × (g .high ≤ g .low) ⌝ }
+    ensures { λ r. ⌜ r ≡ sparesOf (kindOf slot) g ⌝ }
+{
+    if slot % 8 < 3 {
+        return g.low - g.high;
+    }
+    if g.low < 256 {
+        return g.low - g.high;
+    }
+    256 - g.high
 }
 
 // Whether an address may be tried as a spare for a slot.

@@ -19,6 +19,9 @@ use super::map::pointer_of;
 use super::places::Places;
 use super::spares::Gap;
 use super::spares::gap_of;
+use super::spares::next_of;
+use super::spares::spares_of;
+use super::spares::way_of;
 use super::verdict::Refusal;
 use super::verdict::Work;
 use cells::put::put;
@@ -26,7 +29,6 @@ use cells::put::write;
 use cells::row::Found;
 use cells::row::RowPut;
 use cells::row::Walked;
-use cells::row::Way;
 use cells::row::put_row;
 use cells::row::walk;
 use code::codes::code_of;
@@ -81,15 +83,14 @@ pub fn try_spares(image: &mut [u8], lives: &mut [u32], slot: usize, gap: Gap, by
     requires { ⌜ (length (now lives) ≡ length (now image)) × (1 ≤ gap .high) × (gap .high ≤ 256) × (gap .high ≤ gap .low) × (gap .low ≤ length (now image)) ⌝ }
     ensures { λ r. ⌜ seen (r .found) (r .writes) (r .tried) (chip (now (image .exit)) (now (lives .exit))) ≡ view (trySpares slot gap byte (chip (now (image .entry)) (now (lives .entry)))) ⌝ }
 {
-    let high = gap.high;
-    let low = gap.low;
-    if slot % 8 < 3 {
-        return walk(image, lives, low - high, Way::Down, low - 1, byte);
-    }
-    if low < 256 {
-        return walk(image, lives, low - high, Way::Up, high, byte);
-    }
-    walk(image, lives, 256 - high, Way::Up, high, byte)
+    walk(
+        image,
+        lives,
+        spares_of(slot, gap),
+        way_of(slot),
+        next_of(slot, gap),
+        byte,
+    )
 }
 
 // A byte moved to a spare of a slot's kind.

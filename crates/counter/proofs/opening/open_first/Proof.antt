@@ -1,10 +1,10 @@
--- `opening::open_first` meets its contract: all addresses are taken, then all pointers put, then the mark.
-use mathlib.Core.Path.{_≡_, refl, sym, _∙_}
+-- `opening::open_first` meets its contract: all addresses are taken, and then the map is put.
+use mathlib.Core.Path.{_≡_, refl, sym}
 use borrow.Author.Needs.{needs}
 use native.Mathlib.Omega.{arith}
 use lib.ListN.{length, take, length-map}
 use Rattle.counter.proofs.Fitted.{fitted-ready, ready-fitted}
-use Rattle.counter.proofs.OpeningViews.{ready-same, taken-whole, taken-reach, taking-few, pointers-few, mark-few, opening-roomless, opening-unmapped, opening-mapped}
+use Rattle.counter.proofs.OpeningViews.{ready-same, taken-whole, taken-reach, taking-few, map-few, opening-roomless, opening-mapped}
 use Rattle.counter.proofs.opening.open_first.Statement.{statement}
 use Rattle.counter.proofs.opening.open_first.Tie as tie
 
@@ -36,8 +36,8 @@ whole c =
     let took = c .before .before .before .before .before .before .before in
     taken-whole _ _ (took .take-addresses .ensures) (fitted-ready (took .before .before .before .before .before .pre)) (c .enum-told .given .1) (took .take-addresses .result .count) _ refl (sixteen took)
 
-put-pointers-requires : tie.Need-put-pointers-requires
-put-pointers-requires c κs =
+put-map-requires : tie.Need-put-map-requires
+put-map-requires c κs =
     let done = c .before .before .before in
     let took = done .before .before .before .before .before .before .before in
     let ready = fitted-ready (took .before .before .before .before .before .pre) in (
@@ -46,19 +46,16 @@ put-pointers-requires c κs =
       λ k l. rw (whole done) at (taken-reach _ _ (took .take-addresses .ensures) ready (done .enum-told .given .1) k l),
     )
 
-add-writes : tie.Need-add-writes
-add-writes c =
-    let put = c .before .before .before .before .before .before in
-    let took = put .before .before .before .before .before .before .before .before .before .before .before in
+add-t20 : tie.Need-add-t20
+add-t20 c =
+    let map = c .before .before .before .before .before .before in
+    let took = map .before .before .before .before .before .before .before .before .before .before .before in
     omega (
       arith,
       taking-few _ _ (took .take-addresses .ensures) (fitted-ready (took .before .before .before .before .before .pre)),
-      pointers-few _ _ _ _ (put .put-pointers .ensures) .0,
+      map-few _ _ _ (map .put-map .ensures) .0,
       sixteen took,
     )
-
-enum-known-work-2 : tie.Need-enum-known-work-2
-enum-known-work-2 c = search needs
 
 same-length-3 : tie.Need-same-length-3
 same-length-3 c = search needs
@@ -68,44 +65,9 @@ same-length-4 c = search needs
 
 returns-2 : tie.Need-returns-2
 returns-2 c =
-    let put = c .before .before .before .before .before .before .before .before .before in
-    let done = put .before .before .before .before in
-    sym (opening-unmapped _ _ (done .before .before .before .before .before .before .before .take-addresses .ensures) (done .enum-told .given .1) (whole done) (put .put-pointers .ensures) (c .before .work2 .given .1))
-
-enum-told-2 : tie.Need-enum-told-2
-enum-told-2 c = search needs
-
-put-mark-requires : tie.Need-put-mark-requires
-put-mark-requires c κs =
-    let put = c .before .before .before .before .before .before .before .before .before .before in
-    let took = put .before .before .before .before .before .before .before .before .before .before .before in
-    ready-fitted (ready-same (fitted-ready (took .before .before .before .before .before .pre)) (put .put-pointers .kept .0 ∙ took .take-addresses .kept .0) (put .put-pointers .kept .1 .0 ∙ took .take-addresses .kept .1 .0))
-
-add-t29 : tie.Need-add-t29
-add-t29 c =
-    let mark = c .before .before .before .before .before in
-    let put = mark .before .before .before .before .before .before .before .before .before .before .before in
-    let took = put .before .before .before .before .before .before .before .before .before .before .before in
-    omega (
-      arith,
-      taking-few _ _ (took .take-addresses .ensures) (fitted-ready (took .before .before .before .before .before .pre)),
-      pointers-few _ _ _ _ (put .put-pointers .ensures) .0,
-      mark-few _ _ (mark .put-mark .ensures) .0,
-      sixteen took,
-    )
-
-same-length-5 : tie.Need-same-length-5
-same-length-5 c = search needs
-
-same-length-6 : tie.Need-same-length-6
-same-length-6 c = search needs
-
-returns-3 : tie.Need-returns-3
-returns-3 c =
-    let mark = c .before .before .before .before .before in
-    let put = mark .before .before .before .before .before .before .before .before .before .before .before in
-    let done = put .before .before .before .before in
-    sym (opening-mapped _ _ (done .before .before .before .before .before .before .before .take-addresses .ensures) (done .enum-told .given .1) (whole done) (put .put-pointers .ensures) (mark .before .before .before .enum-told2 .given .1) (mark .put-mark .ensures))
+    let map = c .before .before .before .before .before .before in
+    let done = map .before .before .before .before in
+    sym (opening-mapped _ _ (done .before .before .before .before .before .before .before .take-addresses .ensures) (done .enum-told .given .1) (whole done) (map .put-map .ensures))
 
 pub open-first-spec : {M : Type 1} → statement M
 open-first-spec =
@@ -117,15 +79,8 @@ open-first-spec =
     same-length-2
     returns
     enum-told
-    put-pointers-requires
-    add-writes
-    enum-known-work-2
+    put-map-requires
+    add-t20
     same-length-3
     same-length-4
-    returns-2
-    enum-told-2
-    put-mark-requires
-    add-t29
-    same-length-5
-    same-length-6
-    returns-3)
+    returns-2)

@@ -1,19 +1,24 @@
 -- `opening::take_addresses` meets its contract. Whenever the loop's test is reached, the taking comes to what is left
--- of it, behind the addresses taken and the writes asked so far. The measure is the number of slots left.
-use Prim.Native.Nat.{_+_, _-_, _≤_}
+-- of it, behind the addresses taken and the writes asked so far. The measure is the room of the gap.
+use Prim.Native.Nat.{_+_, _≤_, _<_}
 use mathlib.Core.Path.{_≡_, refl, sym, _∙_}
 use borrow.Author.Needs.{needs}
 use native.Mathlib.Omega.{arith}
+use denote.Ref.{now}
 use lib.ListN.{length, take, length-set}
 use Rattle.cells.specs.Chip.{chip}
 use Rattle.cells.specs.Run.{view}
+use Rattle.cells.proofs.Puts.{put-few}
+use Rattle.counter.specs.Slots.{kindOf}
+use Rattle.counter.specs.Spares.{sparesOf}
 use Rattle.counter.specs.Opening.{takeFrom, untried}
+use Rattle.counter.proofs.Gaps.{Free}
 use Rattle.counter.proofs.Ready.{ready-placed}
 use Rattle.counter.proofs.Fitted.{fitted-ready, ready-short}
 use Rattle.counter.proofs.Tries.{room}
 use Rattle.counter.proofs.StoreViews.{GapFits}
-use Rattle.counter.proofs.StoreCosts.{tries-few}
-use Rattle.counter.proofs.OpeningViews.{whole-fits, narrow-fits, Lands, try-lands, ahead, takeLeft, take-left-all, take-left-none, take-left-landed, take-left-missed}
+use Rattle.counter.proofs.NextSpares.{next-free, next-room}
+use Rattle.counter.proofs.OpeningViews.{whole-fits, narrow-fits, ahead, takeLeft, take-left-all, take-left-none, take-left-held, take-left-passed, take-left-roomless}
 use Rattle.counter.proofs.opening.take_addresses.Statement.{statement}
 use Rattle.counter.proofs.opening.take_addresses.Tie as tie
 
@@ -30,7 +35,7 @@ Inv-loop image₀ lives₀ addresses₀ gap₀ writes₀ slot₀ image lives add
     }
 
 abbrev μ-loop : tie.MeasureT-loop
-μ-loop image₀ lives₀ addresses₀ gap₀ writes₀ slot₀ image lives addresses gap writes slot = 16 - slot
+μ-loop image₀ lives₀ addresses₀ gap₀ writes₀ slot₀ image lives addresses gap writes slot = room gap
 
 whole-area-requires : tie.Need-whole-area-requires Inv-loop μ-loop
 whole-area-requires c κs =
@@ -52,27 +57,8 @@ loop-holds c =
       rest = take-left-all _ _ _;
     }
 
-code-of-requires : tie.Need-code-of-requires Inv-loop μ-loop
-code-of-requires c κs = search needs
-
-try-spares-requires : tie.Need-try-spares-requires Inv-loop μ-loop
-try-spares-requires c κs =
-    let ready = fitted-ready (c .before .before .before .before .before .before .before .before .pre) in
-    let paired = ready .paired in
-    let inv = c .before .before .before .before .loop .inv in
-    let fits = inv .fits in
-    (omega arith, fits .first, fits .reach, fits .ordered, omega arith)
-
-add-writes : tie.Need-add-writes Inv-loop μ-loop
-add-writes c =
-    let few = c .before .before .before .before .before .before .before .before .before .before .loop .inv .few in
-    omega (arith, tries-few _ _ _ _ (c .before .before .before .before .before .try-spares .ensures))
-
-enum-known-found : tie.Need-enum-known-found Inv-loop μ-loop
-enum-known-found c = search needs
-
-enum-told : tie.Need-enum-told Inv-loop μ-loop
-enum-told c = search needs
+spares-of-requires : tie.Need-spares-of-requires Inv-loop μ-loop
+spares-of-requires c κs = let fits = c .before .loop .inv .fits in (fits .reach, fits .ordered)
 
 same-length : tie.Need-same-length Inv-loop μ-loop
 same-length c = search needs
@@ -82,12 +68,50 @@ same-length-2 c = search needs
 
 returns : tie.Need-returns Inv-loop μ-loop
 returns c =
-    let call = c .before .before .before .before .before .before .before in
-    let test = call .before .before .before .before in
-    let loop = test .before in
+    let loop = c .before .before .before in
     sym
     (rw (loop .before .whole-area .ensures) at (loop .loop .inv .rest)
-    ∙ take-left-missed _ _ _ _ _ (test .loop-test .taken) (call .before .code-of .ensures) (call .try-spares .ensures) _ _ (c .enum-told .given .1))
+    ∙ take-left-roomless _ (loop .loop .slot) _ _ (c .before .before .loop-test .taken) (sym (c .before .spares-of .ensures) ∙ c .if1 .taken) _ _)
+
+-- there is a spare left for the slot
+some : (c : tie.Else1 Inv-loop μ-loop) → let loop = c .before .before .before .loop in 0 < sparesOf (kindOf (loop .slot)) (loop .gap)
+some c = let left = c .if1 .left in rw (← c .before .spares-of .ensures) (omega arith)
+
+-- the next one is free
+free : (c : tie.After-next-of Inv-loop μ-loop) → let loop = c .before .before .before .before .loop in Free (kindOf (loop .slot)) (loop .gap) (c .next-of .result)
+free c = rw (c .next-of .ensures) (next-free _ _ (some (c .before)))
+
+next-of-requires : tie.Need-next-of-requires Inv-loop μ-loop
+next-of-requires c κs = let fits = c .before .before .before .loop .inv .fits in omega arith
+
+code-of-requires : tie.Need-code-of-requires Inv-loop μ-loop
+code-of-requires c κs = search needs
+
+put-requires : tie.Need-put-requires Inv-loop μ-loop
+put-requires c κs =
+    let paired = fitted-ready (c .before .before .before .before .before .before .before .before .before .before .before .pre) .paired in
+    let free = free (c .before .before .before) in
+    let inv = c .before .before .before .before .before .before .before .loop .inv in
+    let fits = inv .fits in
+    (omega arith, omega arith)
+
+add-writes : tie.Need-add-writes Inv-loop μ-loop
+add-writes c =
+    let few = c .before .before .before .before .before .before .before .before .before .before .before .before .before .loop .inv .few in
+    omega (arith, put-few _ _ _ (c .before .before .before .before .before .put .ensures))
+
+narrowed-requires : tie.Need-narrowed-requires Inv-loop μ-loop
+narrowed-requires c κs =
+    let free = free (c .before .before .before .before .before .before .before .before .before) in
+    let fits = c .before .before .before .before .before .before .before .before .before .before .before .before .before .loop .inv .fits in
+    omega (arith, ready-short (fitted-ready (c .before .before .before .before .before .before .before .before .before .before .before .before .before .before .before .before .before .pre)))
+
+-- the gap without it fits, and has less room
+less : (c : tie.After-narrowed Inv-loop μ-loop) → let loop = c .before .before .before .before .before .before .before .before .before .before .before .before .before .before .loop in GapFits (length (now (c .before .before .before .before .before .before .before .before .before .before .before .before .before .before .before .before .before .before .args .image))) (c .narrowed .result) × (1 + room (c .narrowed .result) ≤ room (loop .gap))
+less c =
+    let loop = c .before .before .before .before .before .before .before .before .before .before .before .before .before .before .loop in
+    let next = c .before .before .before .before .before .before .before .before .before .before in
+    rw (c .narrowed .ensures) (narrow-fits (kindOf (loop .slot)) (loop .inv .fits) (free next), rw (next .next-of .ensures) (next-room (kindOf (loop .slot)) (loop .gap) (some (next .before))))
 
 mul-addresses : tie.Need-mul-addresses Inv-loop μ-loop
 mul-addresses c = search needs
@@ -95,48 +119,45 @@ mul-addresses c = search needs
 array-write-addresses : tie.Need-array-write-addresses Inv-loop μ-loop
 array-write-addresses c = search needs
 
--- where the spares tried for a slot landed
-lands : (c : tie.After-known-told Inv-loop μ-loop)
-    → let call = c .before .before .before .before .before .before .before .before in
-    let loop = call .before .before .before .before .before .loop in
-    Lands (loop .slot) (loop .gap) (c .before .found .given .0 .0) (call .try-spares .result .writes)
-lands c =
-    let call = c .before .before .before .before .before .before .before .before in
-    let loop = call .before .before .before .before .before .loop in
-    let ready = fitted-ready (c .before .before .before .before .before .before .before .before .before .before .before .before .before .before .before .before .before .pre) in
-    let paired = ready .paired in
-    try-lands _ _ _ _ (call .try-spares .ensures) (omega arith) (c .before .found .given .1)
-
-narrowed-requires : tie.Need-narrowed-requires Inv-loop μ-loop
-narrowed-requires c κs =
-    let free = lands c .free in
-    let inv = c .before .before .before .before .before .before .before .before .before .before .before .before .before .loop .inv in
-    let ready = fitted-ready (c .before .before .before .before .before .before .before .before .before .before .before .before .before .before .before .before .before .pre) in
-    omega (arith, ready-short ready)
-
 add-slot : tie.Need-add-slot Inv-loop μ-loop
 add-slot c = search needs
 
 loop-less : tie.Need-loop-less Inv-loop μ-loop
-loop-less c = search needs
+loop-less c = let room = less (c .before) .1 in omega arith
 
 loop-again : tie.Need-loop-again Inv-loop μ-loop
 loop-again c =
-    let call = c .before .before .before .before .before .before .before .before .before in
-    let test = call .before .before .before .before in
-    let inv = test .before .loop .inv in
-    let left = c .narrowed .ensures in
-    let land = lands (c .before) in
+    let put = c .before .before .before .before .before .before .before in
+    let next = put .before .before .before .before in
+    let loop = next .before .before .before .before .loop in
+    let less = less (c .before) in
     record {
       most = omega arith;
-      size = simp length-set (inv .size);
+      size = simp length-set (loop .inv .size);
       cells-kept = omega arith;
       lives-kept = omega arith;
-      fits = rw left (narrow-fits _ (inv .fits) (land .free));
-      few = let few = inv .few in let cost = land .cost in rw left (omega arith);
-      rest =
-          inv .rest
-          ∙ take-left-landed _ _ _ _ _ (test .loop-test .taken) (call .before .code-of .ensures) (call .try-spares .ensures) _ _ (omega arith) (c .before .before .found .given .1) left;
+      fits = less .0;
+      few = let few = loop .inv .few in let room = less .1 in omega (arith, put-few _ _ _ (put .put .ensures));
+      rest = loop .inv .rest ∙ take-left-held _ (loop .slot) _ _ (next .before .before .before .loop-test .taken) (put .before .code-of .ensures) (some (next .before)) (next .next-of .ensures) (put .put .ensures) _ _ (omega arith) (c .if2 .taken) (c .before .narrowed .ensures);
+    }
+
+loop-less-2 : tie.Need-loop-less-2 Inv-loop μ-loop
+loop-less-2 c = let room = less (c .before) .1 in omega arith
+
+loop-again-2 : tie.Need-loop-again-2 Inv-loop μ-loop
+loop-again-2 c =
+    let put = c .before .before .before .before .before .before .before in
+    let next = put .before .before .before .before in
+    let loop = next .before .before .before .before .loop in
+    let less = less (c .before) in
+    record {
+      most = omega arith;
+      size = loop .inv .size;
+      cells-kept = omega arith;
+      lives-kept = omega arith;
+      fits = less .0;
+      few = let few = loop .inv .few in let room = less .1 in omega (arith, put-few _ _ _ (put .put .ensures));
+      rest = loop .inv .rest ∙ take-left-passed _ (loop .slot) _ _ (next .before .before .before .loop-test .taken) (put .before .code-of .ensures) (some (next .before)) (next .next-of .ensures) (put .put .ensures) (take (loop .slot) (loop .addresses)) _ (omega (arith, fitted-ready (put .before .before .before .before .before .before .before .before .before .before .before .before .pre) .paired)) (c .if2 .left) (c .before .narrowed .ensures);
     }
 
 same-length-3 : tie.Need-same-length-3 Inv-loop μ-loop
@@ -159,20 +180,22 @@ take-addresses-spec =
     μ-loop
     whole-area-requires
     loop-holds
-    code-of-requires
-    try-spares-requires
-    add-writes
-    enum-known-found
-    enum-told
+    spares-of-requires
     same-length
     same-length-2
     returns
+    next-of-requires
+    code-of-requires
+    put-requires
+    add-writes
+    narrowed-requires
     mul-addresses
     array-write-addresses
-    narrowed-requires
     add-slot
     loop-less
     loop-again
+    loop-less-2
+    loop-again-2
     same-length-3
     same-length-4
     returns-2)

@@ -1,0 +1,81 @@
+-- The next spare of a kind, tried alone, and what is left when it is taken or passed over.
+--   next-free, next-room      it may be taken, and leaves less room
+--   narrow-behind             an address taken behind another
+--   spares-fit                the spares of a gap are a row of cells of the image
+--   spares-none, spares-held, spares-passed  spares tried: none, the next one holds, or the next one fails
+use Prim.Native.Nat.{ℕ, suc, _+_, _≤_, _<_, min, max}
+use mathlib.Core.Path.{_≡_, sym}
+use mathlib.Core.Bool.{Bool, true, false}
+use native.Mathlib.Omega.{arith}
+use Rattle.cells.specs.declared.row.Found.the-variants.{At, Nowhere}
+use Rattle.cells.specs.Chip.{Chip}
+use Rattle.cells.specs.Run.{Seen, seen, view, _then_}
+use Rattle.cells.specs.Put.{putAt}
+use Rattle.cells.specs.Row.{next, RowFits, tryAt, walk}
+use Rattle.cells.proofs.Walks.{walk-held, walk-miss}
+use Rattle.counter.specs.declared.map.Kind.{Kind}
+use Rattle.counter.specs.declared.map.Kind.the-variants.{High, Low}
+use Rattle.counter.specs.declared.spares.Gap.{Gap}
+use Rattle.counter.specs.Slots.{kindOf}
+use Rattle.counter.specs.Spares.{narrow, wayOf, nextOf, sparesOf}
+use Rattle.counter.specs.Store.{trySpares}
+use Rattle.counter.proofs.Gaps.{Free}
+use Rattle.counter.proofs.Tries.{room}
+use Rattle.counter.proofs.StoreViews.{GapFits}
+
+-- ## Where it lies
+
+pub next-free : (kind : Kind) (g : Gap) → 0 < sparesOf kind g → Free kind g (nextOf kind g)
+unfolding sparesOf nextOf
+next-free High g some = record { from = omega arith; to = omega arith; reach = λ e. omega arith }
+next-free Low g some = record { from = omega arith; to = omega arith; reach = λ e. let z : _≡_ {A = ℕ} 0 1 = cc in absurd (omega arith) }
+
+pub next-room : (kind : Kind) (g : Gap) → 0 < sparesOf kind g → 1 + room (narrow kind (nextOf kind g) g) ≤ room g
+unfolding sparesOf nextOf narrow
+next-room High g some = omega arith
+next-room Low g some = omega arith
+
+-- one spare less is left
+spares-fewer : (kind : Kind) (g : Gap) → 0 < sparesOf kind g → sparesOf kind g ≡ suc (sparesOf kind (narrow kind (nextOf kind g) g))
+unfolding sparesOf nextOf narrow
+spares-fewer High g some = omega arith
+spares-fewer Low g some = omega arith
+
+-- its neighbour comes next
+next-on : (kind : Kind) (g : Gap) → 0 < sparesOf kind g → next (wayOf kind) (nextOf kind g) ≡ nextOf kind (narrow kind (nextOf kind g) g)
+unfolding sparesOf wayOf nextOf narrow next
+next-on High g some = omega arith
+next-on Low g some = omega arith
+
+-- an address taken behind another leaves what it leaves alone
+pub narrow-behind : (kind : Kind) (g : Gap) (a c : ℕ) → Free kind (narrow kind a g) c → narrow kind c (narrow kind a g) ≡ narrow kind c g
+unfolding narrow
+narrow-behind High g a c free = let from = free .from in let same : max (max (g .high) (a + 1)) (c + 1) ≡ max (g .high) (c + 1) = omega arith in rw same
+narrow-behind Low g a c free = let to = free .to in let same : min (min (g .low) a) c ≡ min (g .low) c = omega arith in rw same
+
+pub spares-fit : {size : ℕ} {g : Gap} (kind : Kind) → GapFits size g → RowFits size (wayOf kind) (nextOf kind g) (sparesOf kind g)
+unfolding sparesOf wayOf nextOf
+spares-fit High fits = omega arith
+spares-fit Low fits = (omega arith, λ some. omega arith)
+
+-- ## Spares tried
+
+module _ (k : ℕ) (g : Gap) (b : ℕ) (s : Chip) where
+  pub spares-none : sparesOf (kindOf k) g ≡ 0 → view (trySpares k g b s) ≡ seen Nowhere 0 0 s
+  unfolding trySpares walk
+  spares-none none = rw none
+
+  module _ (some : 0 < sparesOf (kindOf k) g) where
+    abbrev at : ℕ
+    at = nextOf (kindOf k) g
+
+    abbrev left : Gap
+    left = narrow (kindOf k) at g
+
+    pub spares-held : {v : Seen Bool} → v ≡ view (putAt at b s) → v .answer ≡ true → seen (At at) (v .writes) 1 (v .after) ≡ view (trySpares k g b s)
+    unfolding trySpares
+    spares-held e h = rw (spares-fewer (kindOf k) g some) (sym (walk-held _ _ at b s e h))
+
+    pub spares-passed : putAt at b s .answer ≡ false → trySpares k g b s ≡ tryAt at b s then trySpares k left b (putAt at b s .after)
+    unfolding trySpares
+    spares-passed h = rw (spares-fewer (kindOf k) g some, ← next-on (kindOf k) g some) (walk-miss _ _ at b s h)
