@@ -6,6 +6,7 @@ pub mod SoundPointers
 pub mod Gaps
 pub mod MayTry
 pub mod SoundByTries
+pub mod BitMarks
 pub mod Ready
 pub mod Fitted
 pub mod Pointers

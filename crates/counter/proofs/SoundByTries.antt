@@ -3,6 +3,7 @@
 --   ordered-tries             pointers in the area and in order could be tried one after another
 --   sound-tries, sound-apart  sound ones are such
 --   border-tries              pointers on the right sides of a border could be tried one after another
+--   spread-sound              pointers in order are sound where those of each kind differ
 --   sound-differ              of pointers that could be tried, soundness is that they differ
 use Prim.Native.Nat.{ℕ, suc, _+_, _-_, _%_, _≤_, _<_}
 use mathlib.Core.Path.{_≡_, refl, sym, ap, _∙_}
@@ -14,7 +15,7 @@ use borrow.Author.Tests.{eqb-false, ne-eqb, not-true}
 use Rattle.counter.specs.declared.map.Kind.{Kind}
 use Rattle.counter.specs.declared.map.Kind.the-variants.{High, Low}
 use Rattle.counter.specs.declared.places.Places.{Places}
-use Rattle.counter.specs.Slots.{two, slots, kindOf, every}
+use Rattle.counter.specs.Slots.{two, slots, kindOf, every, Among, Apart}
 use Rattle.counter.specs.Map.{sound}
 use Rattle.counter.specs.Spares.{gapTo, mayTry}
 use Rattle.counter.proofs.RangeTests.{every-all, all-every, never}
@@ -160,3 +161,20 @@ module _ (p : Places) (pointer : ℕ → ℕ) (x : ℕ)
       ordered-tries two p pointer inside-at
       (λ k l high. let f = high-at k l (is-high k high) .1 in let top = lows positive .0 in omega arith)
       (λ i j l m high low. let f = high-at i l (is-high i high) .1 in let g = low-at j m (is-low j low) .0 in omega arith)
+
+-- pointers in order differ where those of each kind do
+pub spread-sound :
+    (p : Places) (pointer : ℕ → ℕ) → every 16 (follows two p pointer) ≡ true → Apart (Among 0 3) pointer → Apart (Among 3 8) pointer
+    → sound two p pointer ≡ true
+spread-sound p pointer tries lows highs =
+    tries-sound two p pointer tries
+    (all-every 16 _ (λ j m. all-every j _ (λ i l. ap not (ne-eqb _ _ (differ i j l m (decLt (i % 8) 3) (decLt (j % 8) 3))))))
+  where
+    order : (i j : ℕ) → i < 16 → j < 16 → 3 ≤ i % 8 → j % 8 < 3 → pointer i < pointer j
+    order i j l m high low = ordered two p pointer tries i j l m (kind-high i high) (kind-low j low) (decLt i j)
+
+    differ : (i j : ℕ) → i < j → j < 16 → Dec (i % 8 < 3) → Dec (j % 8 < 3) → pointer i ≡ pointer j → ⊥
+    differ i j l m (yes g) (yes h) e = lows i j (omega arith, omega arith, g) (m, omega arith, h) (λ q. omega arith) e
+    differ i j l m (no g) (no h) e = highs i j (omega arith, omega arith, omega arith) (m, omega arith, omega arith) (λ q. omega arith) e
+    differ i j l m (no g) (yes h) e = let o = order i j (omega arith) m (omega arith) h in omega arith
+    differ i j l m (yes g) (no h) e = let o = order j i m (omega arith) (omega arith) g in omega arith

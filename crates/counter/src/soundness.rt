@@ -1,10 +1,12 @@
 // Whether the pointers of a map are sound (document 01, "The map").
 ghost use mathlib.Core.Path.{_≡_};
 ghost use mathlib.Core.Bool.{true, not};
-ghost use Prim.Native.Nat.{ℕ, _+_, _≤_, _<_, _%_};
+ghost use Prim.Native.Nat.{ℕ, _+_, _-_, _*_, _^_, _%_, _≤_, _<_};
+ghost use lib.Bits.{bitOr};
+ghost use lib.Count.{ones};
 ghost use lib.Dec.{eqb};
 ghost use lib.ListN.{length};
-ghost use Rattle.counter.specs.Slots.{two, kindOf, every};
+ghost use Rattle.counter.specs.Slots.{two, kindOf, every, Among, Apart};
 ghost use Rattle.counter.specs.Map.{pointerOf, sound};
 ghost use Rattle.counter.specs.Spares.{gapTo, mayTry};
 use super::map::Map;
@@ -96,22 +98,38 @@ fn in_order(map: &[u8], p: Places) -> bool
     true
 }
 
-// Whether no two pointers have the same low byte: the quick way to see that all differ.
+// A word of bits with the bit of an address set, the addresses being taken modulo 64.
+fn with_bit(bits: u64, a: usize) -> u64
+    ensures { λ r. ⌜ r ≡ bitOr bits (2 ^ (a % 64)) ⌝ }
+{
+    bits | (1u64 << (a % 64))
+}
+
+// The bits of the pointers of the nibbles from one up to another, in both copies: as many as there are pointers only
+// if no two are the same modulo 64.
+fn bits_of(map: &[u8], from: usize, to: usize) -> u64
+    requires { ⌜ (length (now map) ≡ 24) × (from ≤ to) × (to ≤ 8) ⌝ }
+    ensures { λ r. ⌜ (ones r ≤ 2 * (to - from)) × (ones r ≡ 2 * (to - from) → Apart (Among from to) (λ k. pointerOf (now (map .entry)) k % 64)) ⌝ }
+{
+    let mut bits = 0u64;
+    let mut n = from;
+    while n < to {
+        bits = with_bit(bits, low_byte_of(map, n));
+        bits = with_bit(bits, low_byte_of(map, 8 + n));
+        n += 1;
+    }
+    bits
+}
+
+// Whether no two pointers of one kind are the same modulo 64: where they are in order, the quick way to see that all
+// differ.
 fn spread(map: &[u8]) -> bool
     requires { ⌜ length (now map) ≡ 24 ⌝ }
-    ensures { λ r. ⌜ (r ≡ true → (i j : ℕ) → i < j → j < 16 → pointerOf (now (map .entry)) i % 256 ≡ pointerOf (now (map .entry)) j % 256 → ⊥) ⌝ }
+    ensures { λ r. ⌜ (r ≡ true → (Apart (Among 0 3) (pointerOf (now (map .entry)))) × (Apart (Among 3 8) (pointerOf (now (map .entry))))) ⌝ }
 {
-    let mut seen = [0u8; 256];
-    let mut slot = 0;
-    while slot < Map::SLOTS {
-        let low = low_byte_of(map, slot);
-        if seen[low] != 0 {
-            return false;
-        }
-        seen[low] = 1;
-        slot += 1;
-    }
-    true
+    let low = u64::count_ones(bits_of(map, 0, 3));
+    let high = u64::count_ones(bits_of(map, 3, 8));
+    low + high == 16
 }
 
 // Whether a slot's pointer is none of those before it.
@@ -135,9 +153,6 @@ fn all_differ(map: &[u8]) -> bool
     requires { ⌜ length (now map) ≡ 24 ⌝ }
     ensures { λ r. ⌜ r ≡ every 16 (λ j. every j (λ i. not (eqb (pointerOf (now (map .entry)) i) (pointerOf (now (map .entry)) j)))) ⌝ }
 {
-    if spread(map) {
-        return true;
-    }
     let mut slot = 0;
     while slot < Map::SLOTS {
         if !is_new(map, slot) {
@@ -155,6 +170,9 @@ pub fn is_sound(map: &[u8], p: Places) -> bool
 {
     if !in_order(map, p) {
         return false;
+    }
+    if spread(map) {
+        return true;
     }
     all_differ(map)
 }

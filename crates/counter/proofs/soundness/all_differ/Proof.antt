@@ -1,14 +1,14 @@
--- `soundness::all_differ` meets its contract: pointers whose low bytes differ do, and else each is looked at.
-use Prim.Native.Nat.{_-_, _%_, _≤_}
-use mathlib.Core.Path.{_≡_, refl, sym, ap, _∙_}
+-- `soundness::all_differ` meets its contract: none of the slots passed has the pointer of one before it.
+use Prim.Native.Nat.{_-_, _≤_}
+use mathlib.Core.Path.{_≡_, refl, sym, _∙_}
 use mathlib.Core.Bool.{true, not}
 use borrow.Author.Needs.{needs}
-use borrow.Author.Tests.{ne-eqb, not-true, not-false}
+use borrow.Author.Tests.{not-true, not-false}
 use native.Mathlib.Omega.{arith}
 use lib.Dec.{eqb}
 use Rattle.counter.specs.Slots.{every}
 use Rattle.counter.specs.Map.{pointerOf}
-use Rattle.counter.proofs.RangeTests.{all-every, every-more, every-not}
+use Rattle.counter.proofs.RangeTests.{every-more, every-not}
 use Rattle.counter.proofs.soundness.all_differ.Statement.{statement}
 use Rattle.counter.proofs.soundness.all_differ.Tie as tie
 
@@ -22,15 +22,6 @@ Inv-loop map slot₀ slot =
 abbrev μ-loop : tie.MeasureT-loop
 μ-loop map slot₀ slot = 16 - slot
 
-spread-requires : tie.Need-spread-requires Inv-loop μ-loop
-spread-requires c κs = search needs
-
-returns : tie.Need-returns Inv-loop μ-loop
-returns c =
-    sym
-    (all-every 16 _
-    (λ j m. all-every j _ (λ i l. ap not (ne-eqb _ _ (λ e. c .before .spread .ensures (c .if1 .taken) i j l m (ap (λ x. x % 256) e))))))
-
 loop-holds : tie.Need-loop-holds Inv-loop μ-loop
 unfolding every
 loop-holds c = record { most = omega arith; all = refl }
@@ -38,10 +29,10 @@ loop-holds c = record { most = omega arith; all = refl }
 is-new-requires : tie.Need-is-new-requires Inv-loop μ-loop
 is-new-requires c κs = search needs
 
-returns-2 : tie.Need-returns-2 Inv-loop μ-loop
-returns-2 c =
+returns : tie.Need-returns Inv-loop μ-loop
+returns c =
     let test = c .before .before in
-    sym (every-not 16 _ (test .before .loop .slot) (test .loop-test .taken) (sym (c .before .is-new .ensures) ∙ not-true _ (c .if2 .taken)))
+    sym (every-not 16 _ (test .before .loop .slot) (test .loop-test .taken) (sym (c .before .is-new .ensures) ∙ not-true _ (c .if1 .taken)))
 
 add-slot : tie.Need-add-slot Inv-loop μ-loop
 add-slot c = search needs
@@ -54,11 +45,11 @@ loop-again c =
     let loop = c .before .before .before .loop in
     record {
       most = omega arith;
-      all = every-more (loop .slot) _ (loop .inv .all) (sym (c .before .is-new .ensures) ∙ not-false _ (c .if2 .left));
+      all = every-more (loop .slot) _ (loop .inv .all) (sym (c .before .is-new .ensures) ∙ not-false _ (c .if1 .left));
     }
 
-returns-3 : tie.Need-returns-3 Inv-loop μ-loop
-returns-3 c =
+returns-2 : tie.Need-returns-2 Inv-loop μ-loop
+returns-2 c =
     let loop = c .before .loop in
     let end : loop .slot ≡ 16 = omega arith in
     sym (rw end at (loop .inv .all))
@@ -69,12 +60,10 @@ all-differ-spec =
     (tie.spec
     Inv-loop
     μ-loop
-    spread-requires
-    returns
     loop-holds
     is-new-requires
-    returns-2
+    returns
     add-slot
     loop-less
     loop-again
-    returns-3)
+    returns-2)
