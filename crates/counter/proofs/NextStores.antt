@@ -3,7 +3,7 @@
 --   step-stays                the code of a slot of another nibble stays
 --   held-passed               slots that hold their codes are passed over
 --   store-held                storing a count that all slots hold asks nothing and changes nothing
---   store-holds               what a store that is done leaves
+--   held-next                 behind which comes the next count alone
 --   next-stored, next-is      storing the next count is storing the changed nibble's slot in each copy
 --   next-other                those slots hold another byte
 use Prim.Native.Nat.{ℕ, zero, suc, _+_, _-_, _/_, _%_, _^_, _≤_, _<_}
@@ -19,8 +19,7 @@ use Rattle.code.proofs.NibbleLaws.{nibble-small}
 use Rattle.code.proofs.ReadingLaws.{code-injective}
 use Rattle.code.proofs.ChangeLaws.{step-nibble-small, step-nibble, step-nibble-others}
 use Rattle.cells.specs.Chip.{Chip}
-use Rattle.cells.specs.Run.{Run, Seen, view, still}
-use Rattle.cells.proofs.Views.{said-answer, said-after}
+use Rattle.cells.specs.Run.{Run, still}
 use Rattle.cells.proofs.Logs.{within-kept}
 use Rattle.counter.specs.declared.places.Places.{Places}
 use Rattle.counter.specs.declared.verdict.Work.{Work}
@@ -34,7 +33,7 @@ use Rattle.counter.proofs.SoundPointers.{Sound, test-sound}
 use Rattle.counter.proofs.Ready.{pointers, dataOf, Ready, ready-kept}
 use Rattle.counter.proofs.Moves.{change, Moves, slot-there, slot-laws}
 use Rattle.counter.proofs.Fitted.{fitted-ready}
-use Rattle.counter.proofs.Stores.{done-then, stopped-then, store-laws}
+use Rattle.counter.proofs.Stores.{done-then, stopped-then}
 
 -- the nibble that changes from c to c + 1
 abbrev pub changedNibble : ℕ → ℕ
@@ -91,6 +90,9 @@ module _ (copies : ℕ) (p : Places) (d : ℕ) where
   store-held s held =
       ap (λ (n : ℕ). storeFrom n 0 copies p d s) (sym (add-zero (slots copies)))
       ∙ held-passed (slots copies) 0 0 s (λ j l u. held j (omega arith))
+
+  pub held-next : (s : Chip) (work : Chip → Run Work) → Holds copies p d (s .cells) → store copies p d s andThen work ≡ work s
+  held-next s work held = ap (λ (r : Run Work). r andThen work) (store-held s held) ∙ still-then s work
 
 -- ## The next count
 
@@ -153,28 +155,23 @@ module _ (p : Places) (c : ℕ) (s : Chip) (small : c + 1 < 2 ^ 32) (ready : Rea
       rest : next nibble s .answer ≡ Done → storeFrom (15 - nibble) (nibble + 1) two p (c + 1) (next nibble s .after) ≡ next (8 + nibble) (next nibble s .after)
       rest d = behind _ (ready-kept ready (within-kept (slot .within))) (slot .settles d .sound) (slot .settles d .kept)
 
--- ## What is said of it
+-- ## Over the tests and the numbers that code has at hand
 
-module _ (p : Places) (c : ℕ) (s : Chip) (good : fitted two p s ≡ true) (well : sound two p (pointers two p s) ≡ true) where
-  pub store-holds : {v : Seen Work} → v ≡ view (store two p c s) → v .answer ≡ Done → Holds two p c (v .after .cells)
-  store-holds {v} e h k l =
-      let stored = store-laws two p c s (fitted-ready good) (test-sound two p _ well) .stored (said-answer (store two p c s) e h) in
-      rw (said-after (store two p c s) e) (stored .held k (omega arith) (omega arith))
+module _ (p : Places) (c : ℕ) (s : Chip) (good : fitted two p s ≡ true) (well : sound two p (pointers two p s) ≡ true)
+    (below : c < 4294967295) (held : Holds two p c (s .cells)) {k b : ℕ} (here : k ≡ changedNibble c) (code : b ≡ codeOf (nibbleOf (grayOf (c + 1)) k)) where
+  -- the code of both slots
+  code-is : (j : ℕ) → j % 8 ≡ changedNibble c → slotCode (c + 1) j ≡ b
+  unfolding slotCode
+  code-is j e = rw (e, code, here)
 
-  module _ (below : c < 4294967295) (held : Holds two p c (s .cells)) {k b : ℕ} (here : k ≡ changedNibble c) (code : b ≡ codeOf (nibbleOf (grayOf (c + 1)) k)) where
-    -- the code of both slots
-    code-is : (j : ℕ) → j % 8 ≡ changedNibble c → slotCode (c + 1) j ≡ b
-    unfolding slotCode
-    code-is j e = rw (e, code, here)
+  pub next-is : store two p (c + 1) s ≡ storeSlot two p k b s andThen storeSlot two p (8 + k) b
+  next-is =
+      let small = step-nibble-small c (omega arith) in
+      rw here
+      (next-stored p c s (omega arith) (fitted-ready good) (test-sound two p _ well) held
+      ∙ rw (code-is (changedNibble c) (omega arith), code-is (8 + changedNibble c) (omega arith)))
 
-    pub next-is : store two p (c + 1) s ≡ storeSlot two p k b s andThen storeSlot two p (8 + k) b
-    next-is =
-        let small = step-nibble-small c (omega arith) in
-        rw here
-        (next-stored p c s (omega arith) (fitted-ready good) (test-sound two p _ well) held
-        ∙ rw (code-is (changedNibble c) (omega arith), code-is (8 + changedNibble c) (omega arith)))
-
-    pub next-other : (j : ℕ) → j < 16 → j % 8 ≡ k → dataOf two p s j ≡ b → ⊥
-    next-other j l e same =
-        let at : j % 8 ≡ changedNibble c = e ∙ here in
-        step-changed c (omega arith) j at (sym (held j l) ∙ same ∙ sym (code-is j at))
+  pub next-other : (j : ℕ) → j < 16 → j % 8 ≡ k → dataOf two p s j ≡ b → ⊥
+  next-other j l e same =
+      let at : j % 8 ≡ changedNibble c = e ∙ here in
+      step-changed c (omega arith) j at (sym (held j l) ∙ same ∙ sym (code-is j at))

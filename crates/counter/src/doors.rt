@@ -13,7 +13,7 @@ ghost use Rattle.counter.specs.Places.{places, fitted};
 ghost use Rattle.counter.specs.Map.{mapIn, pointerOf, sound};
 ghost use Rattle.counter.specs.Verdict.{ending, answerOf, outcome, outcomeOf, _andThen_};
 ghost use Rattle.counter.specs.Store.{store, Holds};
-ghost use Rattle.counter.specs.Doors.{beginning, reopening, partVerdict, mapPartOf, Opens, Steps, Reads, HandsBack};
+ghost use Rattle.counter.specs.Doors.{beginning, reopening, stepping, partVerdict, mapPartOf, Opens, Steps, Reads, HandsBack};
 use super::map::Map;
 use super::opening::open_first;
 use super::places::Places;
@@ -23,6 +23,7 @@ use super::standing::Standing;
 use super::standing::standing_of;
 use super::store::Stored;
 use super::store::settle;
+use super::store::store_count;
 use super::store::store_next;
 use super::verdict::Answer;
 use super::verdict::Refusal;
@@ -113,11 +114,11 @@ pub fn open(image: &mut [u8], lives: &mut [u32], m: usize, s: usize, e: usize) -
 }
 
 // Two stores, one after the other: the count that was read, and the next.
-fn advance(image: &mut [u8], lives: &mut [u32], p: Places, count: u32, exact: bool) -> Stored
-    requires { ⌜ (fitted two p (chip (now image) (now lives)) ≡ true) × (sound two p (pointerOf (mapIn two p (now image))) ≡ true) × (count < 4294967295) × (exact ≡ true → Holds two p count (now image)) ⌝ }
+fn store_twice(image: &mut [u8], lives: &mut [u32], p: Places, count: u32) -> Stored
+    requires { ⌜ (fitted two p (chip (now image) (now lives)) ≡ true) × (sound two p (pointerOf (mapIn two p (now image))) ≡ true) × (count < 4294967295) ⌝ }
     ensures { λ r. ⌜ seen (r .work) (r .writes) (r .tried) (chip (now (image .exit)) (now (lives .exit))) ≡ view (store two p count (chip (now (image .entry)) (now (lives .entry))) andThen store two p (count + 1)) ⌝ }
 {
-    let settled = settle(image, lives, p, count, exact);
+    let settled = store_count(image, lives, p, count);
     let work = settled.work;
     if let Work::Stopped(why) = work {
         return Stored {
@@ -126,13 +127,34 @@ fn advance(image: &mut [u8], lives: &mut [u32], p: Places, count: u32, exact: bo
             tried: settled.tried,
         };
     }
-    let stepped = store_next(image, lives, p, count);
+    let stepped = store_count(image, lives, p, count + 1);
     let work = stepped.work;
     Stored {
         work,
         writes: settled.writes + stepped.writes,
         tried: settled.tried + stepped.tried,
     }
+}
+
+// A step from a count and a lag that were read: where all slots hold the count's codes, the first of the two
+// stores has nothing to do.
+fn advance(
+    image: &mut [u8],
+    lives: &mut [u32],
+    p: Places,
+    count: u32,
+    lag: i64,
+    exact: bool,
+) -> Answer
+    requires { ⌜ (fitted two p (chip (now image) (now lives)) ≡ true) × (sound two p (pointerOf (mapIn two p (now image))) ≡ true) × (count < 4294967295) × (exact ≡ true → Holds two p count (now image)) ⌝ }
+    ensures { λ r. ⌜ outcome r (chip (now (image .exit)) (now (lives .exit))) ≡ outcomeOf (stepping two p count lag (chip (now (image .entry)) (now (lives .entry)))) ⌝ }
+{
+    if exact {
+        let stored = store_next(image, lives, p, count);
+        return finished(Verdict::Good(count + 1, lag), stored);
+    }
+    let stored = store_twice(image, lives, p, count);
+    finished(Verdict::Good(count + 1, lag), stored)
 }
 
 // Steps the count by one.
@@ -155,8 +177,7 @@ pub fn step(image: &mut [u8], lives: &mut [u32], m: usize, s: usize, e: usize) -
             if count == LAST_COUNT {
                 return refusal_of(Refusal::LastCount, 0, 0);
             }
-            let stored = advance(image, lives, p, count, exact);
-            finished(Verdict::Good(count + 1, lag), stored)
+            advance(image, lives, p, count, lag, exact)
         }
         Verdict::Refused(why) => refusal_of(why, 0, 0),
     }

@@ -4,10 +4,9 @@ ghost use mathlib.Core.Path.{_≡_};
 ghost use mathlib.Core.Bool.{true};
 ghost use Prim.Native.Nat.{_+_, _≤_, _<_};
 ghost use lib.ListN.{length, getD};
-ghost use lib.Dec.{ltb};
 ghost use Rattle.cells.specs.Chip.{chip};
 ghost use Rattle.cells.specs.Run.{seen, view};
-ghost use Rattle.counter.specs.Slots.{two, kindOf, _and_};
+ghost use Rattle.counter.specs.Slots.{two, kindOf};
 ghost use Rattle.counter.specs.Places.{placesGood, fitted};
 ghost use Rattle.counter.specs.Map.{mapIn, pointerOf, sound, reachable};
 ghost use Rattle.counter.specs.Verdict.{_andThen_};
@@ -189,12 +188,33 @@ pub fn settle(image: &mut [u8], lives: &mut [u32], p: Places, count: u32, exact:
     store_count(image, lives, p, count)
 }
 
-// A byte stored in both slots of a nibble, one after the other.
-fn store_each(image: &mut [u8], lives: &mut [u32], p: Places, nibble: usize, byte: u8) -> Stored
-    requires { ⌜ (fitted two p (chip (now image) (now lives)) ≡ true) × (sound two p (pointerOf (mapIn two p (now image))) ≡ true) × (nibble < 8) ⌝ }
+// A piece of storing, with one write in front of it.
+fn behind_write(stored: Stored) -> Stored
+    requires { ⌜ stored .writes < 65536 ⌝ }
+    ensures { λ r. ⌜ (r .work ≡ stored .work) × (r .writes ≡ 1 + stored .writes) × (r .tried ≡ stored .tried) ⌝ }
+{
+    let work = stored.work;
+    Stored {
+        work,
+        writes: 1 + stored.writes,
+        tried: stored.tried,
+    }
+}
+
+// A byte stored in a slot whose cell is worn and reads another: the put fails, and the byte is moved.
+fn move_worn(image: &mut [u8], lives: &mut [u32], p: Places, slot: usize, byte: u8) -> Stored
+    requires { ⌜ (fitted two p (chip (now image) (now lives)) ≡ true) × (sound two p (pointerOf (mapIn two p (now image))) ≡ true) × (slot < 16) × (dataAt (now image) (mapIn two p (now image)) slot ≡ byte → ⊥) × (getD (now lives) (pointerOf (mapIn two p (now image)) slot) 0 ≡ 0) ⌝ }
+    ensures { λ r. ⌜ seen (r .work) (r .writes) (r .tried) (chip (now (image .exit)) (now (lives .exit))) ≡ view (storeSlot two p slot byte (chip (now (image .entry)) (now (lives .entry)))) ⌝ }
+{
+    behind_write(move_slot(image, lives, p, slot, byte))
+}
+
+// A byte stored in both slots of a nibble, where the first one's cell is worn and reads another.
+fn move_first(image: &mut [u8], lives: &mut [u32], p: Places, nibble: usize, byte: u8) -> Stored
+    requires { ⌜ (fitted two p (chip (now image) (now lives)) ≡ true) × (sound two p (pointerOf (mapIn two p (now image))) ≡ true) × (nibble < 8) × (dataAt (now image) (mapIn two p (now image)) nibble ≡ byte → ⊥) × (getD (now lives) (pointerOf (mapIn two p (now image)) nibble) 0 ≡ 0) ⌝ }
     ensures { λ r. ⌜ seen (r .work) (r .writes) (r .tried) (chip (now (image .exit)) (now (lives .exit))) ≡ view (storeSlot two p nibble byte (chip (now (image .entry)) (now (lives .entry))) andThen storeSlot two p (8 + nibble) byte) ⌝ }
 {
-    let first = store_slot(image, lives, p, nibble, byte);
+    let first = move_worn(image, lives, p, nibble, byte);
     let work = first.work;
     if let Work::Stopped(why) = work {
         return Stored {
@@ -230,17 +250,6 @@ fn cells_of(image: &[u8], p: Places, nibble: usize) -> Pair
     }
 }
 
-// Whether two cells both have life left.
-fn both_alive(lives: &[u32], one: usize, other: usize) -> bool
-    requires { ⌜ (one < length (now lives)) × (other < length (now lives)) ⌝ }
-    ensures { λ r. ⌜ r ≡ (ltb 0 (getD (now (lives .entry)) one 0) and ltb 0 (getD (now (lives .entry)) other 0)) ⌝ }
-{
-    if 0 < lives[one] {
-        return 0 < lives[other];
-    }
-    false
-}
-
 // A byte stored in both slots of a nibble, where neither holds it: two writes, unless a cell is worn.
 fn store_both(image: &mut [u8], lives: &mut [u32], p: Places, nibble: usize, byte: u8) -> Stored
     requires { ⌜ (fitted two p (chip (now image) (now lives)) ≡ true) × (sound two p (pointerOf (mapIn two p (now image))) ≡ true) × (nibble < 8) × (dataAt (now image) (mapIn two p (now image)) nibble ≡ byte → ⊥) × (dataAt (now image) (mapIn two p (now image)) (8 + nibble) ≡ byte → ⊥) ⌝ }
@@ -249,16 +258,19 @@ fn store_both(image: &mut [u8], lives: &mut [u32], p: Places, nibble: usize, byt
     let cells = cells_of(image, p, nibble);
     let one = cells.one;
     let other = cells.other;
-    if both_alive(lives, one, other) {
-        write(image, lives, one, byte);
-        write(image, lives, other, byte);
-        return Stored {
-            work: Work::Done,
-            writes: 2,
-            tried: 0,
-        };
+    if lives[one] == 0 {
+        return move_first(image, lives, p, nibble, byte);
     }
-    store_each(image, lives, p, nibble, byte)
+    write(image, lives, one, byte);
+    if lives[other] == 0 {
+        return behind_write(move_worn(image, lives, p, 8 + nibble, byte));
+    }
+    write(image, lives, other, byte);
+    Stored {
+        work: Work::Done,
+        writes: 2,
+        tried: 0,
+    }
 }
 
 // The next count stored where all slots hold a count's codes: one nibble changes, in each copy.

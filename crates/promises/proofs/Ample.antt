@@ -138,7 +138,7 @@ module _ (copies : ℕ) (p : Places) (c : ℕ) where
           (written-ready ready sound k here (slotCode c k))
           (written-sound ready sound k here (slotCode c k))
           (still-alive n k s ready sound fits d alive) in
-          rw (slot-written ready sound k here (slotCode c k) (record { other = d; alive = life })) (calm-taken n k s ready sound fits d _ later)
+          rw (slot-written ready sound k here (slotCode c k) d life) (calm-taken n k s ready sound fits d _ later)
 
   pub calm-store :
       (s : Chip) → Ready copies p s → Sound (slots copies) p (pointers copies p s)

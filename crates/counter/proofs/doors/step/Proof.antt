@@ -1,5 +1,5 @@
 -- `doors::step` keeps its promise.
-use Prim.Native.Nat.{ℕ, _+_, _<_}
+use Prim.Native.Nat.{ℕ, _<_}
 use mathlib.Core.Path.{_≡_, sym, ap, _∙_}
 use native.Mathlib.Omega.{arith}
 use lib.IntN.{ℤ}
@@ -10,11 +10,10 @@ use Rattle.counter.specs.declared.verdict.Answer.{Answer}
 use Rattle.counter.specs.declared.verdict.Verdict.the-variants.{Good}
 use Rattle.counter.specs.Slots.{two}
 use Rattle.counter.specs.Places.{places}
-use Rattle.counter.specs.Verdict.{outcome, outcomeOf, _andThen_}
-use Rattle.counter.specs.Store.{store}
+use Rattle.counter.specs.Verdict.{outcome, outcomeOf}
 use Rattle.counter.specs.Doors.{chipVerdict, stepping, stepOf}
 use Rattle.counter.proofs.GoodVerdicts.{verdict-good}
-use Rattle.counter.proofs.DoorViews.{outcome-ending, outcome-refused, chip-verdict, good-settled, step-unpaired, step-refused, step-last, step-on}
+use Rattle.counter.proofs.DoorViews.{outcome-refused, chip-verdict, good-settled, step-unpaired, step-refused, step-last, step-on}
 use borrow.Author.Needs.{needs}
 use Rattle.counter.proofs.doors.step.Statement.{statement}
 use Rattle.counter.proofs.doors.step.Tie as tie
@@ -70,12 +69,6 @@ advance-requires c κs =
     let small = verdict-good two _ _ (good told) .1 .small in
     (fit .0, fit .1, below small (c .before .before .if2 .left), λ e. told .before .before .before .verdict-of .ensures .1 e _ _ (told .before .verdict .given .1))
 
-add-t27 : tie.Need-add-t27
-add-t27 c = search needs
-
-finished-requires : tie.Need-finished-requires
-finished-requires c κs = search needs
-
 enum-known-verdict-2 : tie.Need-enum-known-verdict-2
 enum-known-verdict-2 c = search needs
 
@@ -91,8 +84,8 @@ same-length-3 c = search needs
 returns-3 : tie.Need-returns-3
 unfolding stepOf
 returns-3 c =
-    let stored = c .before .before .before .before .before .advance in
-    let if = c .before .before .before .before .before .before .before .before in
+    let call = c .before .before .before .before in
+    let if = call .before .before .before in
     let told = if .before in
     let s = told .before .before .before .before .before .before .before .before .args in
     let p = places (s .m) (s .s) (s .e) in
@@ -100,8 +93,7 @@ returns-3 c =
     let count = told .before .verdict .given .0 .0 in
     let lag = told .before .verdict .given .0 .1 .0 in
     let exact = toZ-ofZ {w = w64} {z = lag} (record { sfits = told .known-told .given .1 .0 .1 }) in
-    ap (λ (a : Answer). outcome a (chip (stored .last .0) (stored .last .1 .0))) (c .finished .ensures)
-    ∙ outcome-ending (store two p count lent andThen store two p (count + 1)) (stored .ensures) _
+    call .advance .ensures
     ∙ ap (λ (z : ℤ). outcomeOf (stepping two p count z lent)) exact
     ∙ ap outcomeOf (sym (step-on two _ _ count lag (good told) (if .if2 .left)))
 
@@ -128,8 +120,6 @@ step-spec =
     same-length
     returns-2
     advance-requires
-    add-t27
-    finished-requires
     enum-known-verdict-2
     refusal-of-requires-3
     same-length-2

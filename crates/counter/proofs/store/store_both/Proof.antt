@@ -1,20 +1,21 @@
 -- `store::store_both` meets its contract: cells that have life and read another byte are written where they are.
-use Prim.Native.Nat.{_+_, _<_}
-use mathlib.Core.Path.{sym, ap, _∙_}
+use Prim.Native.Nat.{ℕ, _+_, _≤_, _<_}
+use mathlib.Core.Path.{_≡_, sym, ap, _∙_}
 use native.Mathlib.Omega.{arith}
-use lib.Dec.{ltb}
-use lib.ListN.{length, getD}
-use Rattle.cells.specs.Chip.{chip}
-use Rattle.cells.specs.Run.{Run, view}
+use lib.ListN.{length}
+use Rattle.cells.specs.Chip.{Chip, chip, lifeAt, writeAt}
+use Rattle.cells.specs.Run.{Run, seen, view, plus}
 use Rattle.counter.specs.declared.verdict.Work.{Work}
+use Rattle.counter.specs.declared.verdict.Work.the-variants.{Done}
 use Rattle.counter.specs.Slots.{two}
-use Rattle.counter.proofs.RangeTests.{and-true}
-use Rattle.counter.proofs.SoundPointers.{test-sound}
-use Rattle.counter.proofs.Ready.{inside-cell}
-use Rattle.counter.proofs.Fitted.{fitted-ready}
-use Rattle.counter.proofs.Written.{Writable, both-written}
+use Rattle.counter.specs.Verdict.{_andThen_}
+use Rattle.counter.specs.Store.{storeSlot}
+use Rattle.counter.proofs.SoundPointers.{test-sound, sound-test}
+use Rattle.counter.proofs.Ready.{pointers, inside-cell}
+use Rattle.counter.proofs.Fitted.{fitted-ready, ready-fitted, ready-short}
+use Rattle.counter.proofs.StoreCosts.{slot-few}
+use Rattle.counter.proofs.Written.{Left, slot-written, written-then, written-left, said-behind}
 use borrow.Author.Needs.{needs}
-use borrow.Author.Tests.{ltb-true}
 use Rattle.counter.proofs.store.store_both.Statement.{statement}
 use Rattle.counter.proofs.store.store_both.Tie as tie
 
@@ -31,36 +32,27 @@ inside c =
     let well = test-sound two _ _ (s .pre .1) in
     (rw (c .cells-of .ensures .0) (inside-cell ready (well .inside _ (omega arith))), rw (c .cells-of .ensures .1) (inside-cell ready (well .inside _ (omega arith))))
 
-both-alive-requires : tie.Need-both-alive-requires
-both-alive-requires c κs =
-    let h = inside (c .before) in
-    let paired = fitted-ready (c .before .before .before .before .before .pre .0) .paired in
-    (omega arith, omega arith)
+-- and so are their lives
+small : (c : tie.After-cells-of) → let s = c .before .before .before .before in
+    (c .cells-of .result .one < length (s .args .lives .now)) × (c .cells-of .result .one < 4096) × (c .cells-of .result .other < 4096)
+small c =
+    let ready = fitted-ready (c .before .before .before .before .pre .0) in
+    let h = inside c in
+    let short = ready-short ready in
+    let paired = ready .paired in
+    (omega arith, omega arith, omega arith)
 
-write-requires : tie.Need-write-requires
-write-requires c κs =
-    let cells = c .before .before .before .before .before in
-    (inside cells .0, fitted-ready (cells .before .before .before .before .pre .0) .paired)
+mul-if1 : tie.Need-mul-if1
+mul-if1 c = omega (arith, small c)
 
-write-requires-2 : tie.Need-write-requires-2
-write-requires-2 c κs =
-    let call = c .before .before .before .before .before .before in
-    let cells = call .before .before .before .before .before .before in
-    let h = inside cells .1 in
-    let paired = fitted-ready (cells .before .before .before .before .pre .0) .paired in
-    (omega (arith, call .write .kept), omega (arith, call .write .kept))
+slice-read-if1 : tie.Need-slice-read-if1
+slice-read-if1 c = small (c .before) .0
 
--- where both have life, each can be written
-writable : (c : tie.Then1) → let s = c .before .before .before .before .before .before .before in
-    let lent = chip (s .args .image .now) (s .args .lives .now) in
-    Writable two (s .args .p) (s .args .nibble) (s .args .byte) lent × Writable two (s .args .p) (8 + s .args .nibble) (s .args .byte) lent
-writable c =
-    let cells = c .before .before .before in
+move-first-requires : tie.Need-move-first-requires
+move-first-requires c κs =
+    let cells = c .before .before .before .before in
     let s = cells .before .before .before .before in
-    let alive = and-true (ltb 0 (getD (s .args .lives .now) (cells .cells-of .result .one) 0)) _ (sym (c .before .both-alive .ensures) ∙ c .if1 .taken) in (
-      record { other = s .pre .3; alive = rw (← (cells .cells-of .ensures .0)) (ltb-true 0 _ (alive .0)) },
-      record { other = s .pre .4; alive = rw (← (cells .cells-of .ensures .1)) (ltb-true 0 _ (alive .1)) },
-    )
+    (s .pre .0, s .pre .1, s .pre .2, s .pre .3, rw (← (cells .cells-of .ensures .0)) (c .before .before .if1 .taken))
 
 same-length : tie.Need-same-length
 same-length c = search needs
@@ -69,19 +61,75 @@ same-length-2 : tie.Need-same-length-2
 same-length-2 c = search needs
 
 returns : tie.Need-returns
-returns c =
-    let second = c .before .before .before .before in
-    let first = second .before .before .before .before .before .before .before in
-    let if = first .before .before .before in
-    let cells = if .before .before .before in
+returns c = search needs
+
+write-requires : tie.Need-write-requires
+write-requires c κs =
+    let cells = c .before .before .before .before in
+    (inside cells .0, fitted-ready (cells .before .before .before .before .pre .0) .paired)
+
+-- the first write
+landed : (c : tie.After-write) → let s = c .before .before .before .before .before .before .before .before .before in
+    let lent = chip (s .args .image .now) (s .args .lives .now) in
+    chip (c .write .last .0) (c .write .last .1 .0) ≡ writeAt (pointers two (s .args .p) lent (s .args .nibble)) (s .args .byte) lent
+landed c =
+    let cells = c .before .before .before .before .before in
+    let s = cells .before .before .before .before in
+    c .write .ensures ∙ ap (λ (a : ℕ). writeAt a (s .args .byte) (chip (s .args .image .now) (s .args .lives .now))) (cells .cells-of .ensures .0)
+
+-- what it leaves for the other slot
+left : (c : tie.After-write) → let s = c .before .before .before .before .before .before .before .before .before in
+    Left two (s .args .p) (8 + s .args .nibble) (s .args .byte) (chip (s .args .image .now) (s .args .lives .now)) (chip (c .write .last .0) (c .write .last .1 .0))
+left c =
+    let s = c .before .before .before .before .before .before .before .before .before in
+    let low = s .pre .2 in
+    written-left (fitted-ready (s .pre .0)) (test-sound two _ _ (s .pre .1)) (s .args .nibble) (omega arith) (s .args .byte) (8 + s .args .nibble) (omega arith) (λ e. omega arith) (s .pre .4) (landed c)
+
+-- the other slot's cell is where it was
+there : (c : tie.After-write) → let s = c .before .before .before .before .before .before .before .before .before in
+    pointers two (s .args .p) (chip (c .write .last .0) (c .write .last .1 .0)) (8 + s .args .nibble) ≡ c .before .before .before .before .before .cells-of .result .other
+there c = left c .pointer ∙ sym (c .before .before .before .before .before .cells-of .ensures .1)
+
+-- the second slot comes behind that write
+behind : (c : tie.After-write) → let s = c .before .before .before .before .before .before .before .before .before in
+    let other = storeSlot two (s .args .p) (8 + s .args .nibble) (s .args .byte) in
+    view (storeSlot two (s .args .p) (s .args .nibble) (s .args .byte) (chip (s .args .image .now) (s .args .lives .now)) andThen other)
+    ≡ plus 1 0 (view (other (chip (c .write .last .0) (c .write .last .1 .0))))
+behind c =
+    let cells = c .before .before .before .before .before in
     let s = cells .before .before .before .before in
     let low = s .pre .2 in
-    let both = writable if in
-    let done = both-written (fitted-ready (s .pre .0)) (test-sound two _ _ (s .pre .1)) (s .args .nibble) (8 + s .args .nibble) (s .args .byte) (omega arith) (omega arith) (λ e. omega arith) (both .0) (both .1) in
-    rw (second .write2 .ensures, first .write .ensures, cells .cells-of .ensures .0, cells .cells-of .ensures .1) (sym (ap (λ (r : Run Work). view r) done))
+    let living = c .before .before .before .if1 .left in
+    let alive : 1 ≤ lifeAt (chip (s .args .image .now) (s .args .lives .now)) (pointers two (s .args .p) (chip (s .args .image .now) (s .args .lives .now)) (s .args .nibble)) =
+    rw (← (cells .cells-of .ensures .0)) (omega arith) in
+    rw (landed c)
+    (written-then (fitted-ready (s .pre .0)) (test-sound two _ _ (s .pre .1)) (s .args .nibble) (omega arith) (s .args .byte) (s .pre .3) alive (storeSlot two (s .args .p) (8 + s .args .nibble) (s .args .byte)))
 
-store-each-requires : tie.Need-store-each-requires
-store-each-requires c κs = search needs
+mul-if2 : tie.Need-mul-if2
+mul-if2 c = omega (arith, small (c .before .before .before .before .before .before .before .before .before))
+
+slice-read-if2 : tie.Need-slice-read-if2
+slice-read-if2 c =
+    let one = c .before .before .before .before .before in
+    let h = inside (one .before .before .before .before .before) .1 in
+    let paired = fitted-ready (one .before .before .before .before .before .before .before .before .before .pre .0) .paired in
+    omega (arith, one .write .kept)
+
+add-move-worn : tie.Need-add-move-worn
+add-move-worn c = search needs
+
+move-worn-requires : tie.Need-move-worn-requires
+move-worn-requires c κs =
+    let one = c .before .before .before .before .before .before .before .before in
+    let low = one .before .before .before .before .before .before .before .before .before .pre .2 in
+    (ready-fitted (left one .ready), sound-test two _ _ (left one .sound), omega arith, left one .other, rw (there one) (c .before .before .if2 .taken))
+
+behind-write-requires : tie.Need-behind-write-requires
+behind-write-requires c κs =
+    let call = c .before .before .before .before in
+    let one = call .before .before .before .before .before .before .before .before .before in
+    let few = slot-few (left one .ready) _ _ (call .move-worn .ensures) .0 in
+    omega arith
 
 same-length-3 : tie.Need-same-length-3
 same-length-3 c = search needs
@@ -90,20 +138,57 @@ same-length-4 : tie.Need-same-length-4
 same-length-4 c = search needs
 
 returns-2 : tie.Need-returns-2
-returns-2 c = search needs
+returns-2 c =
+    let call = c .before .before .before .before .before in
+    let one = call .before .before .before .before .before .before .before .before .before in
+    said-behind _ (c .behind-write .ensures) ∙ ap (plus 1 0) (call .move-worn .ensures) ∙ sym (behind one)
+
+write-requires-2 : tie.Need-write-requires-2
+write-requires-2 c κs =
+    let one = c .before .before .before .before .before .before .before .before in
+    let h = inside (one .before .before .before .before .before) .1 in
+    (omega (arith, one .write .kept), left one .ready .paired)
+
+same-length-5 : tie.Need-same-length-5
+same-length-5 c = search needs
+
+same-length-6 : tie.Need-same-length-6
+same-length-6 c = search needs
+
+returns-3 : tie.Need-returns-3
+returns-3 c =
+    let call = c .before .before .before .before in
+    let one = call .before .before .before .before .before .before .before .before .before in
+    let s = one .before .before .before .before .before .before .before .before .before in
+    let low = s .pre .2 in
+    let written = chip (one .write .last .0) (one .write .last .1 .0) in
+    let living = call .before .before .before .if2 .left in
+    let alive : 1 ≤ lifeAt written (pointers two (s .args .p) written (8 + s .args .nibble)) = rw (there one) (omega arith) in
+    let done = slot-written (left one .ready) (left one .sound) (8 + s .args .nibble) (omega arith) (s .args .byte) (left one .other) alive in
+    ap (λ (t : Chip). seen Done 2 0 t) (call .write2 .ensures ∙ ap (λ (a : ℕ). writeAt a (s .args .byte) written) (sym (there one)))
+    ∙ sym (behind one ∙ ap (λ (r : Run Work). plus 1 0 (view r)) done)
 
 pub store-both-spec : {M : Type 1} → statement M
 store-both-spec =
     tie.close
     (tie.spec
     cells-of-requires
-    both-alive-requires
-    write-requires
-    write-requires-2
+    mul-if1
+    slice-read-if1
+    move-first-requires
     same-length
     same-length-2
     returns
-    store-each-requires
+    write-requires
+    mul-if2
+    slice-read-if2
+    add-move-worn
+    move-worn-requires
+    behind-write-requires
     same-length-3
     same-length-4
-    returns-2)
+    returns-2
+    write-requires-2
+    same-length-5
+    same-length-6
+    returns-3)
