@@ -1,9 +1,11 @@
 -- The next spare of a kind, tried alone, and what is left when it is taken or passed over.
 --   next-free, next-room      it may be taken, and leaves less room
+--   Next, low-next, high-next it is the lowest Low pointer's neighbour, or the next High address
+--   met-none, far-none        where there is none
 --   narrow-behind             an address taken behind another
 --   spares-fit                the spares of a gap are a row of cells of the image
 --   spares-none, spares-held, spares-passed  spares tried: none, the next one holds, or the next one fails
-use Prim.Native.Nat.{ℕ, suc, _+_, _≤_, _<_, min, max}
+use Prim.Native.Nat.{ℕ, suc, _+_, _-_, _%_, _≤_, _<_, min, max}
 use mathlib.Core.Path.{_≡_, sym}
 use mathlib.Core.Bool.{Bool, true, false}
 use native.Mathlib.Omega.{arith}
@@ -17,8 +19,9 @@ use Rattle.counter.specs.declared.map.Kind.{Kind}
 use Rattle.counter.specs.declared.map.Kind.the-variants.{High, Low}
 use Rattle.counter.specs.declared.spares.Gap.{Gap}
 use Rattle.counter.specs.Slots.{kindOf}
-use Rattle.counter.specs.Spares.{narrow, wayOf, nextOf, sparesOf}
+use Rattle.counter.specs.Spares.{gap, narrow, wayOf, nextOf, sparesOf}
 use Rattle.counter.specs.Store.{trySpares}
+use Rattle.counter.proofs.Offsets.{kind-low, kind-high}
 use Rattle.counter.proofs.Gaps.{Free}
 use Rattle.counter.proofs.Tries.{room}
 use Rattle.counter.proofs.StoreViews.{GapFits}
@@ -30,10 +33,40 @@ unfolding sparesOf nextOf
 next-free High g some = record { from = omega arith; to = omega arith; reach = λ e. omega arith }
 next-free Low g some = record { from = omega arith; to = omega arith; reach = λ e. let z : _≡_ {A = ℕ} 0 1 = cc in absurd (omega arith) }
 
-pub next-room : (kind : Kind) (g : Gap) → 0 < sparesOf kind g → 1 + room (narrow kind (nextOf kind g) g) ≤ room g
+pub next-room : (kind : Kind) (g : Gap) → 0 < sparesOf kind g → room (narrow kind (nextOf kind g) g) < room g
 unfolding sparesOf nextOf narrow
 next-room High g some = omega arith
 next-room Low g some = omega arith
+
+-- an address is the next for a slot, and this is left without it
+pub record Next (k : ℕ) (g : Gap) (a : ℕ) (left : Gap) : Type 0 where
+  pub some : 0 < sparesOf (kindOf k) g
+  pub here : a ≡ nextOf (kindOf k) g
+  pub leaves : left ≡ narrow (kindOf k) a g
+
+module _ (k : ℕ) (g : Gap) where
+  pub low-next : k % 8 < 3 → g .high < g .low → Next k g (g .low - 1) (gap (g .high) (g .low - 1))
+  unfolding sparesOf nextOf narrow
+  low-next h l =
+      let least : min (g .low) (g .low - 1) ≡ g .low - 1 = omega arith in
+      record { some = rw (kind-low k h) (omega arith); here = rw (kind-low k h); leaves = rw (kind-low k h, least) }
+
+  pub high-next : 3 ≤ k % 8 → g .high < g .low → g .high < 256 → Next k g (g .high) (gap (g .high + 1) (g .low))
+  unfolding sparesOf nextOf narrow
+  high-next h l m =
+      let most : max (g .high) (g .high + 1) ≡ g .high + 1 = omega arith in
+      record { some = rw (kind-high k h) (omega arith); here = rw (kind-high k h); leaves = rw (kind-high k h, most) }
+
+  pub met-none : g .high ≡ g .low → sparesOf (kindOf k) g ≡ 0
+  met-none e = go (kindOf k)
+    where
+      go : (kind : Kind) → sparesOf kind g ≡ 0
+      go High = unfold sparesOf in omega arith
+      go Low = unfold sparesOf in omega arith
+
+  pub far-none : 3 ≤ k % 8 → g .high ≡ 256 → sparesOf (kindOf k) g ≡ 0
+  unfolding sparesOf
+  far-none h e = rw (kind-high k h) (omega arith)
 
 -- one spare less is left
 spares-fewer : (kind : Kind) (g : Gap) → 0 < sparesOf kind g → sparesOf kind g ≡ suc (sparesOf kind (narrow kind (nextOf kind g) g))

@@ -16,7 +16,7 @@ use mathlib.Core.List.{List, [], _∷_, _++_, append-assoc, append-nil}
 use native.Mathlib.Nat.{add-zero, zero-add, add-assoc, sub-zero, sub-self}
 use native.Mathlib.Numerals.{add-one}
 use native.Mathlib.Omega.{arith}
-use lib.ListN.{length, getD, take, set, length-append, length-take}
+use lib.ListN.{length, getD, take, set, length-append, length-take, length-set}
 use lib.Seq.{take-all, take-suc-set}
 use Rattle.code.specs.Codes.{codeOf}
 use Rattle.cells.specs.declared.row.Found.{Found}
@@ -27,7 +27,8 @@ use Rattle.cells.specs.Put.{putAt}
 use Rattle.cells.specs.Row.{tryAt, putRow}
 use Rattle.cells.proofs.Views.{said-then, said-answer}
 use Rattle.cells.proofs.Writes.{kept-paired}
-use Rattle.cells.proofs.Puts.{put-laws}
+use Rattle.cells.proofs.Logs.{within-kept}
+use Rattle.cells.proofs.Puts.{put-within, put-few, put-laws}
 use Rattle.cells.proofs.Rows.{row-tried, row-cost}
 use Rattle.counter.specs.declared.map.Kind.{Kind}
 use Rattle.counter.specs.declared.map.Kind.the-variants.{High, Low}
@@ -51,7 +52,7 @@ use Rattle.counter.proofs.Tries.{room, Landing, Trying, Trying.missing,
 use Rattle.counter.proofs.Stores.{done-then, stopped-then}
 use Rattle.counter.proofs.StoreViews.{pointer-tried, GapFits}
 use Rattle.counter.proofs.StoreCosts.{pointer-few}
-use Rattle.counter.proofs.NextSpares.{narrow-behind, spares-none, spares-held, spares-passed}
+use Rattle.counter.proofs.NextSpares.{Next, next-free, next-room, narrow-behind, spares-none, spares-held, spares-passed}
 use Rattle.counter.proofs.Takes.{AllTaken, take-laws}
 use Rattle.counter.proofs.PointerRows.{pointers-row}
 
@@ -178,6 +179,64 @@ module _ (n : ℕ) where
   -- no spare is left
   pub take-left-roomless : (k : ℕ) (g : Gap) (s : Chip) → k < n → sparesOf (kindOf k) g ≡ 0 → (xs : List ℕ) (w : ℕ) → ahead xs w (view (takeLeft n k g s)) ≡ seen (taken (Stopped (NoSpare k)) xs) w 0 s
   take-left-roomless k g s inside none xs w = take-left-missed k g (codeOf 0) s inside refl (sym (spares-none k g (codeOf 0) s none)) xs w refl ∙ rw add-zero
+
+-- when the first k slots have their addresses, at so many writes: the chip and what is left to be taken
+pub record Taking (s₀ : Chip) (g₀ : Gap) (s : Chip) (addresses : List ℕ) (g : Gap) (w k : ℕ) : Type 0 where
+  pub most : k ≤ 16
+  pub size : length addresses ≡ 16
+  pub cells-kept : length (s .cells) ≡ length (s₀ .cells)
+  pub lives-kept : length (s .lives) ≡ length (s₀ .lives)
+  pub fits : GapFits (length (s₀ .cells)) g
+  pub few : w + room g ≤ 4096
+  pub rest : view (untried (takeFrom 16 0 g₀ s₀)) ≡ ahead (take k addresses) w (view (takeLeft 16 k g s))
+
+-- one turn: the next address is tried
+module _ {s₀ : Chip} {g₀ : Gap} {s : Chip} {addresses : List ℕ} {g : Gap} {w k : ℕ} (taking : Taking s₀ g₀ s addresses g w k) (inside : k < 16) {a : ℕ} {left : Gap} (next : Next k g a left) where
+  free : Free (kindOf k) g a
+  free = rw (next .here) (next-free (kindOf k) g (next .some))
+
+  left-fits : GapFits (length (s₀ .cells)) left
+  left-fits = rw (next .leaves) (narrow-fits (kindOf k) (taking .fits) free)
+
+  pub turn-inside : a < length (s .cells)
+  turn-inside = let to = free .to in let fits = taking .fits in let kept = taking .cells-kept in omega arith
+
+  pub turn-less : room left < room g
+  turn-less = rw (next .leaves, next .here) (next-room (kindOf k) g (next .some))
+
+  module _ {b : ℕ} (byte : b ≡ codeOf 0) {v : Seen Bool} (e : v ≡ view (putAt a b s)) where
+    cells-after : length (v .after .cells) ≡ length (s₀ .cells)
+    cells-after = rw e (within-kept (put-within a b s) .cells-length ∙ taking .cells-kept)
+
+    lives-after : length (v .after .lives) ≡ length (s₀ .lives)
+    lives-after = rw e (within-kept (put-within a b s) .lives-length ∙ taking .lives-kept)
+
+    paid : w + v .writes + room left ≤ 4096
+    paid = omega (arith, taking .few, turn-less, put-few a b s e)
+
+    pub turn-held : v .answer ≡ true → Taking s₀ g₀ (v .after) (set addresses k a) left (w + v .writes) (k + 1)
+    turn-held h =
+        record {
+          most = omega arith;
+          size = length-set addresses k a ∙ taking .size;
+          cells-kept = cells-after;
+          lives-kept = lives-after;
+          fits = left-fits;
+          few = paid;
+          rest = taking .rest ∙ take-left-held 16 k g s inside byte (next .some) (next .here) e addresses w (omega (arith, taking .size)) h (next .leaves);
+        }
+
+    pub turn-passed : Paired s → v .answer ≡ false → Taking s₀ g₀ (v .after) addresses left (w + v .writes) k
+    turn-passed paired h =
+        record {
+          most = taking .most;
+          size = taking .size;
+          cells-kept = cells-after;
+          lives-kept = lives-after;
+          fits = left-fits;
+          few = paid;
+          rest = taking .rest ∙ take-left-passed 16 k g s inside byte (next .some) (next .here) e (take k addresses) w paired h (next .leaves);
+        }
 
 -- it asks at most one write for each cell of the gap
 pub take-few : (n k : ℕ) (g : Gap) (s : Chip) → Paired s → length (takeFrom n k g s .log) ≤ room g

@@ -15,10 +15,6 @@ ghost use Rattle.counter.specs.Opening.{taken, takeFrom, pointerRow, put
 use super::map::Map;
 use super::map::offset_of;
 use super::places::Places;
-use super::spares::narrowed;
-use super::spares::next_of;
-use super::spares::spares_of;
-use super::spares::whole_area;
 use super::store::Stored;
 use super::store::mapped;
 use super::verdict::Refusal;
@@ -37,17 +33,18 @@ struct Takings {
 }
 
 // 80 put for every slot, each at the next address of its kind that holds it. An address that does not is passed
-// over, as if it were taken.
+// over, as if it were taken. `high` is the next High address and `low` the lowest Low pointer, as in a gap.
 fn take_addresses(image: &mut [u8], lives: &mut [u32], p: Places) -> Takings
     requires { ⌜ fitted two p (chip (now image) (now lives)) ≡ true ⌝ }
     ensures { λ r. ⌜ seen (taken (r .work) (take (r .count) (r .addresses))) (r .writes) 0 (chip (now (image .exit)) (now (lives .exit))) ≡ view (untried (takeFrom 16 0 (wholeArea p) (chip (now (image .entry)) (now (lives .entry))))) ⌝ }
 {
     let mut addresses = [0usize; 16];
-    let mut gap = whole_area(p);
+    let mut high = p.start;
+    let mut low = p.end + 1;
     let mut writes = 0;
     let mut slot = 0;
     while slot < Map::SLOTS {
-        if spares_of(slot, gap) == 0 {
+        if high == low {
             return Takings {
                 work: Work::Stopped(Refusal::NoSpare(slot)),
                 addresses,
@@ -55,13 +52,31 @@ fn take_addresses(image: &mut [u8], lives: &mut [u32], p: Places) -> Takings
                 writes,
             };
         }
-        let at = next_of(slot, gap);
-        let done = put(image, lives, at, code_of(0));
-        writes += done.writes;
-        gap = narrowed(slot, at, gap);
-        if done.held {
-            addresses[slot] = at;
-            slot += 1;
+        if slot % 8 < 3 {
+            low -= 1;
+            let done = put(image, lives, low, code_of(0));
+            writes += done.writes;
+            if done.held {
+                addresses[slot] = low;
+                slot += 1;
+            }
+        } else {
+            let at = high;
+            if at == 256 {
+                return Takings {
+                    work: Work::Stopped(Refusal::NoSpare(slot)),
+                    addresses,
+                    count: slot,
+                    writes,
+                };
+            }
+            high += 1;
+            let done = put(image, lives, at, code_of(0));
+            writes += done.writes;
+            if done.held {
+                addresses[slot] = at;
+                slot += 1;
+            }
         }
     }
     Takings {
