@@ -1,5 +1,6 @@
 #!/bin/sh
-# tests/promised.sh: every public function of a library crate has an `ensures`, and no door of the counter or for C has a `requires`.
+# tests/promised.sh: every public function of a library crate has an `ensures`, no door of the counter or for C has a `requires`,
+# and of each public function of code, cells and counter it is proved that its contract leaves one answer.
 set -eu
 cd "$(dirname "$0")/.."
 
@@ -17,4 +18,7 @@ for crate in crates/*/; do
     [ ! -f "$crate/src/lib.rt" ] || heads "$crate"src/*.rt
 done | grep -v ensures && { echo 'promised: these promise nothing'; exit 1; }
 heads crates/counter/src/doors.rt crates/lyre/src/lib.rt | grep requires && { echo 'promised: these ask something'; exit 1; }
-echo 'promised: every public function of a library promises, and no door asks'
+heads crates/code/src/*.rt crates/cells/src/*.rt crates/counter/src/*.rt | awk '{ gsub("_", "-", $2); print $2 }' | while read -r name; do
+    grep -q "^ *pub $name-one : Sole " crates/promises/proofs/NoSecond.antt || echo "$name"
+done | grep . && { echo 'promised: of these it is not proved that they leave one answer'; exit 1; }
+echo 'promised: every public function of a library promises, those of the three crates leave one answer, and no door asks'

@@ -33,14 +33,14 @@ impl Map {
     pub const COPY_SIZE: usize = 11;
 
     // The map at a place.
-    pub fn at(place: usize) -> Map
+    pub(crate) fn at(place: usize) -> Map
         ensures { λ r. ⌜ r .place ≡ place ⌝ }
     {
         Map { place }
     }
 
     // The map's cells, as a part of the image.
-    pub fn cells(self, image: &[u8]) -> &[u8]
+    pub(crate) fn cells(self, image: &[u8]) -> &[u8]
         requires { ⌜ self .place + 24 ≤ length (now image) ⌝ }
         ensures { λ r. ⌜ now r ≡ take 24 (drop (self .place) (now (image .entry))) ⌝ }
     {
@@ -51,7 +51,7 @@ impl Map {
 }
 
 // The kind of a slot's cells.
-pub fn kind_of(slot: usize) -> Kind
+pub(crate) fn kind_of(slot: usize) -> Kind
     ensures { λ r. ⌜ r ≡ kindOf slot ⌝ }
 {
     if slot % 8 < 3 {
@@ -61,7 +61,7 @@ pub fn kind_of(slot: usize) -> Kind
 }
 
 // Whether both bytes of the mark are there.
-pub fn is_marked(map: &[u8]) -> bool
+pub(crate) fn is_marked(map: &[u8]) -> bool
     requires { ⌜ length (now map) ≡ 24 ⌝ }
     ensures { λ r. ⌜ r ≡ marked (now (map .entry)) ⌝ }
 {
@@ -75,7 +75,7 @@ pub fn is_marked(map: &[u8]) -> bool
 }
 
 // Where a slot's pointer starts in the map.
-pub fn offset_of(slot: usize) -> usize
+pub(crate) fn offset_of(slot: usize) -> usize
     requires { ⌜ slot < 16 ⌝ }
     ensures { λ r. ⌜ r ≡ offsetOf slot ⌝ }
 {
@@ -88,7 +88,7 @@ pub fn offset_of(slot: usize) -> usize
 }
 
 // A slot's pointer: two bytes, low byte first, for a Low one, and one for a High one.
-pub fn pointer_of(map: &[u8], slot: usize) -> usize
+pub(crate) fn pointer_of(map: &[u8], slot: usize) -> usize
     requires { ⌜ (length (now map) ≡ 24) × (slot < 16) ⌝ }
     ensures { λ r. ⌜ (r ≡ pointerOf (now (map .entry)) slot) × (r < 65536) ⌝ }
 {
@@ -100,7 +100,7 @@ pub fn pointer_of(map: &[u8], slot: usize) -> usize
 }
 
 // The low byte of a slot's pointer, which is the first of its bytes.
-pub fn low_byte_of(map: &[u8], slot: usize) -> usize
+pub(crate) fn low_byte_of(map: &[u8], slot: usize) -> usize
     requires { ⌜ (length (now map) ≡ 24) × (slot < 16) ⌝ }
     ensures { λ r. ⌜ (r ≡ pointerOf (now (map .entry)) slot % 256) × (r < 256) ⌝ }
 {

@@ -140,7 +140,7 @@ fn put_map(image: &mut [u8], lives: &mut [u32], p: Places, addresses: &[usize; 1
 }
 
 // All of it, up to what stops it.
-pub fn open_first(image: &mut [u8], lives: &mut [u32], p: Places) -> Stored
+pub(crate) fn open_first(image: &mut [u8], lives: &mut [u32], p: Places) -> Stored
     requires { ⌜ fitted two p (chip (now image) (now lives)) ≡ true ⌝ }
     ensures { λ r. ⌜ seen (r .work) (r .writes) (r .tried) (chip (now (image .exit)) (now (lives .exit))) ≡ view (firstOpening two p (chip (now (image .entry)) (now (lives .entry)))) ⌝ }
 {

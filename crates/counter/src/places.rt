@@ -12,7 +12,7 @@ pub struct Places {
 }
 
 // Whether an image of n cells is neither too short nor too long.
-pub fn length_good(n: usize) -> bool
+pub(crate) fn length_good(n: usize) -> bool
     ensures { λ r. ⌜ r ≡ lengthGood two n ⌝ }
 {
     if n < 41 {
@@ -25,7 +25,7 @@ pub fn length_good(n: usize) -> bool
 }
 
 // Whether the place settings are good for an image of n cells. No sum can wrap.
-pub fn places_good(n: usize, p: Places) -> bool
+pub(crate) fn places_good(n: usize, p: Places) -> bool
     ensures { λ r. ⌜ r ≡ placesGood two n p ⌝ }
 {
     if p.map < 1 {

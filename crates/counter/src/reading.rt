@@ -147,7 +147,7 @@ fn decided(first: u32, second: u32) -> Verdict
 }
 
 // What the bytes of the slots come to.
-pub fn weighed(data: &[u8; 16]) -> Verdict
+pub(crate) fn weighed(data: &[u8; 16]) -> Verdict
     ensures { λ r. ⌜ r ≡ weigh two (listed (now («data» .entry))) ⌝ }
 {
     let entries = entries_of(data);
@@ -205,7 +205,7 @@ pub struct Finding {
 }
 
 // What the bytes of the slots come to: where both copies are the same codes, there is nothing to weigh.
-pub fn found_in(image: &[u8], map: &[u8]) -> Finding
+pub(crate) fn found_in(image: &[u8], map: &[u8]) -> Finding
     requires { ⌜ Reaches (now image) (now map) ⌝ }
     ensures { λ r. ⌜ (r .verdict ≡ weigh two (dataAt (now (image .entry)) (now (map .entry)))) × (r .exact ≡ true → (c : ℕ) (lag : ℤ) → r .verdict ≡ Good c lag → (k : ℕ) → k < 16 → dataAt (now (image .entry)) (now (map .entry)) k ≡ slotCode c k) ⌝ }
 {
@@ -227,7 +227,7 @@ pub fn found_in(image: &[u8], map: &[u8]) -> Finding
 }
 
 // What a marked image with good settings reads as.
-pub fn examined(image: &[u8], p: Places) -> Finding
+pub(crate) fn examined(image: &[u8], p: Places) -> Finding
     requires { ⌜ (lengthGood two (length (now image)) ≡ true) × (placesGood two (length (now image)) p ≡ true) ⌝ }
     ensures { λ r. ⌜ (r .verdict ≡ examine two p (now (image .entry))) × (r .exact ≡ true → (c : ℕ) (lag : ℤ) → r .verdict ≡ Good c lag → Holds two p c (now (image .entry))) ⌝ }
 {
@@ -242,7 +242,7 @@ pub fn examined(image: &[u8], p: Places) -> Finding
 }
 
 // What an image reads as, by the tests in the order of the table.
-pub fn verdict_of(image: &[u8], p: Places) -> Finding
+pub(crate) fn verdict_of(image: &[u8], p: Places) -> Finding
     ensures { λ r. ⌜ (r .verdict ≡ verdictOf two p (now (image .entry))) × (r .exact ≡ true → (c : ℕ) (lag : ℤ) → r .verdict ≡ Good c lag → Holds two p c (now (image .entry))) ⌝ }
 {
     let standing = standing_of(image, p);

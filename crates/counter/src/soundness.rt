@@ -164,7 +164,7 @@ fn all_differ(map: &[u8]) -> bool
 }
 
 // Whether the pointers are sound.
-pub fn is_sound(map: &[u8], p: Places) -> bool
+pub(crate) fn is_sound(map: &[u8], p: Places) -> bool
     requires { ⌜ (length (now map) ≡ 24) × (p .end < 4096) ⌝ }
     ensures { λ r. ⌜ r ≡ sound two p (pointerOf (now (map .entry))) ⌝ }
 {

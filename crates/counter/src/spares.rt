@@ -17,7 +17,7 @@ pub struct Gap {
 }
 
 // The gap before any cell is taken.
-pub fn whole_area(p: Places) -> Gap
+pub(crate) fn whole_area(p: Places) -> Gap
     requires { ⌜ p .end < 4096 ⌝ }
     ensures { λ r. ⌜ r ≡ wholeArea p ⌝ }
 {
@@ -28,7 +28,7 @@ pub fn whole_area(p: Places) -> Gap
 }
 
 // The gap with an address taken for a slot.
-pub fn narrowed(slot: usize, a: usize, g: Gap) -> Gap
+pub(crate) fn narrowed(slot: usize, a: usize, g: Gap) -> Gap
     requires { ⌜ a < 65536 ⌝ }
     ensures { λ r. ⌜ r ≡ narrow (kindOf slot) a g ⌝ }
 {
@@ -51,7 +51,7 @@ pub fn narrowed(slot: usize, a: usize, g: Gap) -> Gap
 }
 
 // Which way the spares of a slot are tried.
-pub fn way_of(slot: usize) -> Way
+pub(crate) fn way_of(slot: usize) -> Way
     ensures { λ r. ⌜ r ≡ wayOf (kindOf slot) ⌝ }
 {
     if slot % 8 < 3 {
@@ -61,7 +61,7 @@ pub fn way_of(slot: usize) -> Way
 }
 
 // The next address for a slot.
-pub fn next_of(slot: usize, g: Gap) -> usize
+pub(crate) fn next_of(slot: usize, g: Gap) -> usize
     requires { ⌜ 1 ≤ g .low ⌝ }
     ensures { λ r. ⌜ r ≡ nextOf (kindOf slot) g ⌝ }
 {
@@ -72,7 +72,7 @@ pub fn next_of(slot: usize, g: Gap) -> usize
 }
 
 // How many cells from the next address on may be tried for a slot.
-pub fn spares_of(slot: usize, g: Gap) -> usize
+pub(crate) fn spares_of(slot: usize, g: Gap) -> usize
     requires { ⌜ (g .high ≤ 256) × (g .high ≤ g .low) ⌝ }
     ensures { λ r. ⌜ r ≡ sparesOf (kindOf slot) g ⌝ }
 {
@@ -86,7 +86,7 @@ pub fn spares_of(slot: usize, g: Gap) -> usize
 }
 
 // Whether an address may be tried as a spare for a slot.
-pub fn may_try(p: Places, slot: usize, g: Gap, a: usize) -> bool
+pub(crate) fn may_try(p: Places, slot: usize, g: Gap, a: usize) -> bool
     ensures { λ r. ⌜ r ≡ mayTry p (kindOf slot) g a ⌝ }
 {
     if a < p.start {
@@ -105,7 +105,7 @@ pub fn may_try(p: Places, slot: usize, g: Gap, a: usize) -> bool
 }
 
 // The gap that the pointers of all slots leave.
-pub fn gap_of(map: &[u8], p: Places) -> Gap
+pub(crate) fn gap_of(map: &[u8], p: Places) -> Gap
     requires { ⌜ (length (now map) ≡ 24) × (p .end < 4096) ⌝ }
     ensures { λ r. ⌜ r ≡ gapOf two p (pointerOf (now (map .entry))) ⌝ }
 {

@@ -18,7 +18,7 @@ pub enum Standing {
 }
 
 // How an image stands.
-pub fn standing_of(image: &[u8], p: Places) -> Standing
+pub(crate) fn standing_of(image: &[u8], p: Places) -> Standing
     ensures { λ r. ⌜ r ≡ standingOf two p (now (image .entry)) ⌝ }
 {
     if !length_good(image.len()) {

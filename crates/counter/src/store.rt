@@ -43,7 +43,7 @@ pub struct Stored {
 }
 
 // What a row of map bytes came to: done, or stopped at the byte whose put failed.
-pub fn mapped(row: RowPut) -> Stored
+pub(crate) fn mapped(row: RowPut) -> Stored
     ensures { λ r. ⌜ (r .work ≡ mapped (row .failed)) × (r .writes ≡ row .writes) × (r .tried ≡ 0) ⌝ }
 {
     let failed = row.failed;
@@ -63,7 +63,13 @@ pub fn mapped(row: RowPut) -> Stored
 }
 
 // An address put as a slot's pointer, low byte first.
-pub fn put_pointer(image: &mut [u8], lives: &mut [u32], p: Places, slot: usize, a: usize) -> Stored
+pub(crate) fn put_pointer(
+    image: &mut [u8],
+    lives: &mut [u32],
+    p: Places,
+    slot: usize,
+    a: usize,
+) -> Stored
     requires { ⌜ (fitted two p (chip (now image) (now lives)) ≡ true) × (slot < 16) × (a < 65536) × (reachable (kindOf slot) a ≡ true) ⌝ }
     ensures { λ r. ⌜ seen (r .work) (r .writes) (r .tried) (chip (now (image .exit)) (now (lives .exit))) ≡ view (putPointer p slot a (chip (now (image .entry)) (now (lives .entry)))) ⌝ }
 {
@@ -78,7 +84,13 @@ pub fn put_pointer(image: &mut [u8], lives: &mut [u32], p: Places, slot: usize, 
 }
 
 // The spares of a slot's kind that a gap leaves, tried one after another until one holds the byte.
-pub fn try_spares(image: &mut [u8], lives: &mut [u32], slot: usize, gap: Gap, byte: u8) -> Walked
+pub(crate) fn try_spares(
+    image: &mut [u8],
+    lives: &mut [u32],
+    slot: usize,
+    gap: Gap,
+    byte: u8,
+) -> Walked
     requires { ⌜ (length (now lives) ≡ length (now image)) × (1 ≤ gap .high) × (gap .high ≤ 256) × (gap .high ≤ gap .low) × (gap .low ≤ length (now image)) ⌝ }
     ensures { λ r. ⌜ seen (r .found) (r .writes) (r .tried) (chip (now (image .exit)) (now (lives .exit))) ≡ view (trySpares slot gap byte (chip (now (image .entry)) (now (lives .entry)))) ⌝ }
 {
@@ -119,7 +131,13 @@ fn move_slot(image: &mut [u8], lives: &mut [u32], p: Places, slot: usize, byte: 
 }
 
 // A byte put at a slot's cell, and moved if the put fails.
-pub fn store_slot(image: &mut [u8], lives: &mut [u32], p: Places, slot: usize, byte: u8) -> Stored
+pub(crate) fn store_slot(
+    image: &mut [u8],
+    lives: &mut [u32],
+    p: Places,
+    slot: usize,
+    byte: u8,
+) -> Stored
     requires { ⌜ (fitted two p (chip (now image) (now lives)) ≡ true) × (sound two p (pointerOf (mapIn two p (now image))) ≡ true) × (slot < 16) ⌝ }
     ensures { λ r. ⌜ seen (r .work) (r .writes) (r .tried) (chip (now (image .exit)) (now (lives .exit))) ≡ view (storeSlot two p slot byte (chip (now (image .entry)) (now (lives .entry)))) ⌝ }
 {
@@ -144,7 +162,7 @@ pub fn store_slot(image: &mut [u8], lives: &mut [u32], p: Places, slot: usize, b
 }
 
 // A count stored: copy 1, nibbles 0 to 7, then copy 2 the same.
-pub fn store_count(image: &mut [u8], lives: &mut [u32], p: Places, count: u32) -> Stored
+pub(crate) fn store_count(image: &mut [u8], lives: &mut [u32], p: Places, count: u32) -> Stored
     requires { ⌜ (fitted two p (chip (now image) (now lives)) ≡ true) × (sound two p (pointerOf (mapIn two p (now image))) ≡ true) ⌝ }
     ensures { λ r. ⌜ seen (r .work) (r .writes) (r .tried) (chip (now (image .exit)) (now (lives .exit))) ≡ view (store two p count (chip (now (image .entry)) (now (lives .entry)))) ⌝ }
 {
@@ -174,7 +192,13 @@ pub fn store_count(image: &mut [u8], lives: &mut [u32], p: Places, count: u32) -
 }
 
 // A count stored, unless all slots are known to hold its codes.
-pub fn settle(image: &mut [u8], lives: &mut [u32], p: Places, count: u32, exact: bool) -> Stored
+pub(crate) fn settle(
+    image: &mut [u8],
+    lives: &mut [u32],
+    p: Places,
+    count: u32,
+    exact: bool,
+) -> Stored
     requires { ⌜ (fitted two p (chip (now image) (now lives)) ≡ true) × (sound two p (pointerOf (mapIn two p (now image))) ≡ true) × (exact ≡ true → Holds two p count (now image)) ⌝ }
     ensures { λ r. ⌜ seen (r .work) (r .writes) (r .tried) (chip (now (image .exit)) (now (lives .exit))) ≡ view (store two p count (chip (now (image .entry)) (now (lives .entry)))) ⌝ }
 {
@@ -274,7 +298,7 @@ fn store_both(image: &mut [u8], lives: &mut [u32], p: Places, nibble: usize, byt
 }
 
 // The next count stored where all slots hold a count's codes: one nibble changes, in each copy.
-pub fn store_next(image: &mut [u8], lives: &mut [u32], p: Places, count: u32) -> Stored
+pub(crate) fn store_next(image: &mut [u8], lives: &mut [u32], p: Places, count: u32) -> Stored
     requires { ⌜ (fitted two p (chip (now image) (now lives)) ≡ true) × (sound two p (pointerOf (mapIn two p (now image))) ≡ true) × (count < 4294967295) × (Holds two p count (now image)) ⌝ }
     ensures { λ r. ⌜ seen (r .work) (r .writes) (r .tried) (chip (now (image .exit)) (now (lives .exit))) ≡ view (store two p (count + 1) (chip (now (image .entry)) (now (lives .entry)))) ⌝ }
 {

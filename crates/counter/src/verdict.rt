@@ -60,7 +60,7 @@ fn refused(code: u32, place: usize) -> Answer
 }
 
 // The answer of a refused call, with its number in document 01.
-pub fn refusal_of(why: Refusal, writes: usize, tried: usize) -> Answer
+pub(crate) fn refusal_of(why: Refusal, writes: usize, tried: usize) -> Answer
     ensures { λ r. ⌜ r ≡ refusalOf why writes tried ⌝ }
 {
     match why {
@@ -100,7 +100,7 @@ pub fn refusal_of(why: Refusal, writes: usize, tried: usize) -> Answer
 }
 
 // The answer of a call that ended so, after so many writes and tries.
-pub fn answer_of(verdict: Verdict, writes: usize, tried: usize) -> Answer
+pub(crate) fn answer_of(verdict: Verdict, writes: usize, tried: usize) -> Answer
     ensures { λ r. ⌜ r ≡ answerOf verdict writes tried ⌝ }
 {
     match verdict {
