@@ -92,10 +92,11 @@ pub(crate) fn pointer_of(map: &[u8], slot: usize) -> usize
     requires { ⌜ (length (now map) ≡ 24) × (slot < 16) ⌝ }
     ensures { λ r. ⌜ (r ≡ pointerOf (now (map .entry)) slot) × (r < 65536) ⌝ }
 {
-    let at = offset_of(slot);
     if slot % 8 < 3 {
+        let at = offset_of(slot);
         return wide(map[at]) + 256 * wide(map[at + 1]);
     }
+    let at = offset_of(slot);
     wide(map[at])
 }
 

@@ -14,7 +14,7 @@ offset-of-requires c κs = search needs
 shared-slice-read-wide : tie.Need-shared-slice-read-wide
 shared-slice-read-wide c =
     let s = c .before .before .before .before in
-    omega (arith, low-inside 2 (s .args .slot) (s .pre .1) (c .before .if1 .taken))
+    omega (arith, low-inside 2 (s .args .slot) (s .pre .1) (c .before .before .if1 .taken))
 
 wide-requires : tie.Need-wide-requires
 wide-requires c κs = search needs
@@ -22,12 +22,12 @@ wide-requires c κs = search needs
 add-wide : tie.Need-add-wide
 add-wide c =
     let s = c .before .before .before .before .before in
-    omega (arith, low-inside 2 (s .args .slot) (s .pre .1) (c .before .before .if1 .taken))
+    omega (arith, low-inside 2 (s .args .slot) (s .pre .1) (c .before .before .before .if1 .taken))
 
 shared-slice-read-wide-2 : tie.Need-shared-slice-read-wide-2
 shared-slice-read-wide-2 c =
     let s = c .before .before .before .before .before .before in
-    omega (arith, low-inside 2 (s .args .slot) (s .pre .1) (c .before .before .before .if1 .taken))
+    omega (arith, low-inside 2 (s .args .slot) (s .pre .1) (c .before .before .before .before .if1 .taken))
 
 wide-requires-2 : tie.Need-wide-requires-2
 wide-requires-2 c κs = search needs
@@ -41,17 +41,20 @@ add-result c = search needs
 returns : tie.Need-returns
 returns c =
     let s = c .before .before .before .before .before .before .before in
-    let at = c .before .before .before .before .before .offset-of .ensures in
+    let at = c .before .before .before .before .offset-of .ensures in
     let low : byteAt (s .args .map .now) (offsetOf (s .args .slot)) ≡ c .before .before .wide .result
     = rw (← at) (sym (c .before .before .wide .ensures .0)) in
     let high : byteAt (s .args .map .now) (offsetOf (s .args .slot) + 1) ≡ c .wide2 .result = rw (← at) (sym (c .wide2 .ensures .0)) in
-    let pointer = pointer-low (s .args .map .now) (s .args .slot) (c .before .before .before .before .if1 .taken) in
+    let pointer = pointer-low (s .args .map .now) (s .args .slot) (c .before .before .before .before .before .if1 .taken) in
     (omega arith, omega arith)
+
+offset-of-requires-2 : tie.Need-offset-of-requires-2
+offset-of-requires-2 c κs = search needs
 
 shared-slice-read-wide-3 : tie.Need-shared-slice-read-wide-3
 shared-slice-read-wide-3 c =
     let s = c .before .before .before .before in
-    omega (arith, high-inside 2 (s .args .slot) (s .pre .1) (c .before .if1 .left))
+    omega (arith, high-inside 2 (s .args .slot) (s .pre .1) (c .before .before .if1 .left))
 
 wide-requires-3 : tie.Need-wide-requires-3
 wide-requires-3 c κs = search needs
@@ -59,9 +62,9 @@ wide-requires-3 c κs = search needs
 returns-2 : tie.Need-returns-2
 returns-2 c =
     let s = c .before .before .before .before .before in
-    let at = c .before .before .before .offset-of .ensures in
+    let at = c .before .before .offset-of2 .ensures in
     let byte : byteAt (s .args .map .now) (offsetOf (s .args .slot)) ≡ c .wide3 .result = rw (← at) (sym (c .wide3 .ensures .0)) in
-    let pointer = pointer-high (s .args .map .now) (s .args .slot) (c .before .before .if1 .left) in
+    let pointer = pointer-high (s .args .map .now) (s .args .slot) (c .before .before .before .if1 .left) in
     (omega arith, omega arith)
 
 pub pointer-of-spec : {M : Type 1} → statement M
@@ -77,6 +80,7 @@ pointer-of-spec =
     mul-result
     add-result
     returns
+    offset-of-requires-2
     shared-slice-read-wide-3
     wide-requires-3
     returns-2)
