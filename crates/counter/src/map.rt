@@ -1,8 +1,8 @@
 // The map (document 01, "The map"), handed on as the part of the image that starts at its place: its mark
 // and its pointers. Slot k stands for nibble k % 8 of copy k / 8.
 ghost use mathlib.Core.Path.{_≡_};
-ghost use Prim.Native.Nat.{_+_, _%_, _≤_, _<_};
-ghost use lib.ListN.{length, take, drop};
+ghost use Prim.Native.Nat.{ℕ, _+_, _%_, _≤_, _<_};
+ghost use lib.ListN.{length, getD, take, drop};
 ghost use Rattle.counter.specs.Slots.{kindOf};
 ghost use Rattle.counter.specs.Map.{marked, offsetOf, pointerOf};
 use code::table::wide;
@@ -106,4 +106,18 @@ pub(crate) fn low_byte_of(map: &[u8], slot: usize) -> usize
     ensures { λ r. ⌜ (r ≡ pointerOf (now (map .entry)) slot % 256) × (r < 256) ⌝ }
 {
     wide(map[offset_of(slot)])
+}
+
+// The pointers of all slots, for a test that reads each many times.
+pub(crate) fn pointers_of(map: &[u8]) -> [usize; 16]
+    requires { ⌜ length (now map) ≡ 24 ⌝ }
+    ensures { λ r. ⌜ ((k : ℕ) → k < 16 → getD r k 0 ≡ pointerOf (now (map .entry)) k) ⌝ }
+{
+    let mut pointers = [0usize; 16];
+    let mut slot = 0;
+    while slot < Map::SLOTS {
+        pointers[slot] = pointer_of(map, slot);
+        slot += 1;
+    }
+    pointers
 }

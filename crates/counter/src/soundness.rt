@@ -7,11 +7,12 @@ ghost use lib.Count.{ones};
 ghost use lib.Dec.{eqb};
 ghost use lib.ListN.{length};
 ghost use Rattle.counter.specs.Slots.{two, kindOf, every, Among, Apart};
-ghost use Rattle.counter.specs.Map.{pointerOf, sound};
+ghost use Rattle.counter.specs.Map.{listed, pointerOf, sound};
 ghost use Rattle.counter.specs.Spares.{gapTo, mayTry};
 use super::map::Map;
 use super::map::low_byte_of;
 use super::map::pointer_of;
+use super::map::pointers_of;
 use super::places::Places;
 use super::spares::may_try;
 use super::spares::narrowed;
@@ -133,14 +134,14 @@ fn spread(map: &[u8]) -> bool
 }
 
 // Whether a slot's pointer is none of those before it.
-fn is_new(map: &[u8], slot: usize) -> bool
-    requires { ⌜ (length (now map) ≡ 24) × (slot < 16) ⌝ }
-    ensures { λ r. ⌜ r ≡ every slot (λ i. not (eqb (pointerOf (now (map .entry)) i) (pointerOf (now (map .entry)) slot))) ⌝ }
+fn is_new(pointers: &[usize; 16], slot: usize) -> bool
+    requires { ⌜ slot < 16 ⌝ }
+    ensures { λ r. ⌜ r ≡ every slot (λ i. not (eqb (listed (now (pointers .entry)) i) (listed (now (pointers .entry)) slot))) ⌝ }
 {
-    let a = pointer_of(map, slot);
+    let a = pointers[slot];
     let mut i = 0;
     while i < slot {
-        if pointer_of(map, i) == a {
+        if pointers[i] == a {
             return false;
         }
         i += 1;
@@ -148,14 +149,15 @@ fn is_new(map: &[u8], slot: usize) -> bool
     true
 }
 
-// Whether all pointers are different.
+// Whether all pointers are different, each compared with those before it.
 fn all_differ(map: &[u8]) -> bool
     requires { ⌜ length (now map) ≡ 24 ⌝ }
     ensures { λ r. ⌜ r ≡ every 16 (λ j. every j (λ i. not (eqb (pointerOf (now (map .entry)) i) (pointerOf (now (map .entry)) j)))) ⌝ }
 {
+    let pointers = pointers_of(map);
     let mut slot = 0;
     while slot < Map::SLOTS {
-        if !is_new(map, slot) {
+        if !is_new(&pointers, slot) {
             return false;
         }
         slot += 1;

@@ -7,36 +7,42 @@ use borrow.Author.Tests.{eq-eqb, ne-eqb}
 use native.Mathlib.Omega.{arith}
 use lib.Dec.{eqb}
 use Rattle.counter.specs.Slots.{every}
-use Rattle.counter.specs.Map.{pointerOf}
+use Rattle.counter.specs.Map.{listed}
 use Rattle.counter.proofs.RangeTests.{every-more, every-not}
 use Rattle.counter.proofs.soundness.is_new.Statement.{statement}
 use Rattle.counter.proofs.soundness.is_new.Tie as tie
 
 abbrev Inv-loop : tie.InvT-loop
-Inv-loop map slot a i₀ i =
+Inv-loop pointers slot a i₀ i =
     record {
       most : i ≤ slot;
-      own : a ≡ pointerOf map slot;
-      all : every i (λ k. not (eqb (pointerOf map k) (pointerOf map slot))) ≡ true;
+      own : a ≡ listed pointers slot;
+      all : every i (λ k. not (eqb (listed pointers k) (listed pointers slot))) ≡ true;
     }
 
 abbrev μ-loop : tie.MeasureT-loop
-μ-loop map slot a i₀ i = slot - i
+μ-loop pointers slot a i₀ i = slot - i
 
-pointer-of-requires : tie.Need-pointer-of-requires Inv-loop μ-loop
-pointer-of-requires c κs = search needs
+mul-a : tie.Need-mul-a Inv-loop μ-loop
+mul-a c = search needs
+
+element-copy-out-a : tie.Need-element-copy-out-a Inv-loop μ-loop
+element-copy-out-a c = search needs
 
 loop-holds : tie.Need-loop-holds Inv-loop μ-loop
 unfolding every
 loop-holds c = search needs
 
-pointer-of-requires-2 : tie.Need-pointer-of-requires-2 Inv-loop μ-loop
-pointer-of-requires-2 c κs = search needs
+mul-if1 : tie.Need-mul-if1 Inv-loop μ-loop
+mul-if1 c = search needs
+
+element-copy-out-if1 : tie.Need-element-copy-out-if1 Inv-loop μ-loop
+element-copy-out-if1 c = search needs
 
 returns : tie.Need-returns Inv-loop μ-loop
 returns c =
     let loop = c .before .before .before .loop in
-    sym (every-not _ _ (loop .i) (c .before .before .loop-test .taken) (ap not (eq-eqb _ _ (sym (c .before .pointer-of2 .ensures .0) ∙ c .if1 .taken ∙ loop .inv .own))))
+    sym (every-not _ _ (loop .i) (c .before .before .loop-test .taken) (ap not (eq-eqb _ _ (c .if1 .taken ∙ loop .inv .own))))
 
 add-i : tie.Need-add-i Inv-loop μ-loop
 add-i c = search needs
@@ -50,13 +56,13 @@ loop-again c =
     record {
       most = omega arith;
       own = loop .inv .own;
-      all = every-more (loop .i) _ (loop .inv .all) (ap not (ne-eqb _ _ (λ e. c .if1 .left (c .before .pointer-of2 .ensures .0 ∙ e ∙ sym (loop .inv .own)))));
+      all = every-more (loop .i) _ (loop .inv .all) (ap not (ne-eqb _ _ (λ e. c .if1 .left (e ∙ sym (loop .inv .own)))));
     }
 
 returns-2 : tie.Need-returns-2 Inv-loop μ-loop
 returns-2 c =
     let loop = c .before .loop in
-    let end : loop .i ≡ c .before .before .before .before .args .slot = omega arith in
+    let end : loop .i ≡ c .before .before .before .args .slot = omega arith in
     sym (rw end at (loop .inv .all))
 
 pub is-new-spec : {M : Type 1} → statement M
@@ -65,9 +71,11 @@ is-new-spec =
     (tie.spec
     Inv-loop
     μ-loop
-    pointer-of-requires
+    mul-a
+    element-copy-out-a
     loop-holds
-    pointer-of-requires-2
+    mul-if1
+    element-copy-out-if1
     returns
     add-i
     loop-less
