@@ -5,11 +5,9 @@
 --   offset-next               a slot's pointer ends where the next slot's begins
 --   offset-before             a slot's pointer ends before any later slot's begins
 --   offset-inside             it ends inside the map
---   first-inside              its first byte is inside
 --   low-inside, high-inside   so do the two bytes of a Low one, and the one of a High one
 --   offset-low, offset-high   where it starts, by its kind
 --   pointer-low, pointer-high a pointer by its bytes
---   pointer-first             its first byte is its low byte
 use Prim.Native.Nat.{ℕ, _+_, _*_, _/_, _%_, _≤_, _<_}
 use mathlib.Core.Path.{_≡_, refl}
 use mathlib.Core.Logic.{_⊎_, inl, inr}
@@ -106,13 +104,6 @@ offset-inside copies k h = go (lies k)
     go (low h′ kind at size) = omega arith
     go (high h′ kind at size) = omega arith
 
-pub first-inside : (copies k : ℕ) → k < slots copies → offsetOf k < mapCells copies
-first-inside copies k h = go (lies k)
-  where
-    go : Lies k → offsetOf k < mapCells copies
-    go (low h′ kind at size) = omega arith
-    go (high h′ kind at size) = omega arith
-
 pub low-inside : (copies k : ℕ) → k < slots copies → k % 8 < 3 → offsetOf k + 2 ≤ mapCells copies
 unfolding bytesOf
 low-inside copies k h l = rw (kind-low k l) at (offset-inside copies k h)
@@ -136,10 +127,3 @@ pointer-low map k h = rw (kind-low k h)
 pub pointer-high : (map : List ℕ) (k : ℕ) → 3 ≤ k % 8 → pointerOf map k ≡ byteAt map (offsetOf k)
 unfolding pointerOf pointerAt
 pointer-high map k h = rw (kind-high k h)
-
-pub pointer-first : (map : List ℕ) (k : ℕ) → byteAt map (offsetOf k) < 256 → pointerOf map k % 256 ≡ byteAt map (offsetOf k)
-pointer-first map k small = go (decLt (k % 8) 3)
-  where
-    go : Dec (k % 8 < 3) → pointerOf map k % 256 ≡ byteAt map (offsetOf k)
-    go (yes h) = let e = pointer-low map k h in omega arith
-    go (no h) = let e = pointer-high map k (omega arith) in omega arith

@@ -1,7 +1,7 @@
 // The map (document 01, "The map"), handed on as the part of the image that starts at its place: its mark
 // and its pointers. Slot k stands for nibble k % 8 of copy k / 8.
 ghost use mathlib.Core.Path.{_≡_};
-ghost use Prim.Native.Nat.{ℕ, _+_, _%_, _≤_, _<_};
+ghost use Prim.Native.Nat.{ℕ, _+_, _≤_, _<_};
 ghost use lib.ListN.{length, getD, take, drop};
 ghost use Rattle.counter.specs.Slots.{kindOf};
 ghost use Rattle.counter.specs.Map.{marked, offsetOf, pointerOf};
@@ -98,14 +98,6 @@ pub(crate) fn pointer_of(map: &[u8], slot: usize) -> usize
     }
     let at = offset_of(slot);
     wide(map[at])
-}
-
-// The low byte of a slot's pointer, which is the first of its bytes.
-pub(crate) fn low_byte_of(map: &[u8], slot: usize) -> usize
-    requires { ⌜ (length (now map) ≡ 24) × (slot < 16) ⌝ }
-    ensures { λ r. ⌜ (r ≡ pointerOf (now (map .entry)) slot % 256) × (r < 256) ⌝ }
-{
-    wide(map[offset_of(slot)])
 }
 
 // The pointers of all slots, for a test that reads each many times.

@@ -10,13 +10,13 @@ ghost use Rattle.counter.specs.Slots.{two, kindOf, every, Among, Apart};
 ghost use Rattle.counter.specs.Map.{listed, pointerOf, sound};
 ghost use Rattle.counter.specs.Spares.{gapTo, mayTry};
 use super::map::Map;
-use super::map::low_byte_of;
 use super::map::pointer_of;
 use super::map::pointers_of;
 use super::places::Places;
 use super::spares::may_try;
 use super::spares::narrowed;
 use super::spares::whole_area;
+use std::num::wrapping_sub_usize;
 
 // A number that is at most either of two.
 fn lower(a: usize, b: usize) -> usize
@@ -28,26 +28,43 @@ fn lower(a: usize, b: usize) -> usize
     b
 }
 
+// A number that is at least either of two.
+fn higher(a: usize, b: usize) -> usize
+    ensures { λ r. ⌜ (a ≤ r) × (b ≤ r) ⌝ }
+{
+    if a < b {
+        return b;
+    }
+    a
+}
+
 // A number at most 256 and at most every Low pointer, or 0 where one is past the area's end.
 fn low_border(map: &[u8], p: Places) -> usize
     requires { ⌜ length (now map) ≡ 24 ⌝ }
     ensures { λ r. ⌜ (0 < r → (r ≤ 256) × ((n : ℕ) → n < 3 → (r ≤ pointerOf (now (map .entry)) n) × (pointerOf (now (map .entry)) n ≤ p .end) × (r ≤ pointerOf (now (map .entry)) (8 + n)) × (pointerOf (now (map .entry)) (8 + n) ≤ p .end))) ⌝ }
 {
     let mut border = 256;
+    let mut last = 0;
     let mut n = 0;
     while n < 3 {
         let a = pointer_of(map, n);
         let b = pointer_of(map, 8 + n);
-        if p.end < a {
-            return 0;
-        }
-        if p.end < b {
-            return 0;
-        }
         border = lower(lower(border, a), b);
+        last = higher(higher(last, a), b);
         n += 1;
     }
+    if p.end < last {
+        return 0;
+    }
     border
+}
+
+// Whether a number is from a start up to a border: the distance of one below the start wraps, and is past any border.
+fn is_between(a: usize, start: usize, border: usize) -> bool
+    requires { ⌜ start ≤ border ⌝ }
+    ensures { λ r. ⌜ (r ≡ true → (start ≤ a) × (a < border)) ⌝ }
+{
+    wrapping_sub_usize(a, start) < border - start
 }
 
 // Whether every High pointer is in the area and below a border.
@@ -55,20 +72,15 @@ fn highs_below(map: &[u8], p: Places, border: usize) -> bool
     requires { ⌜ length (now map) ≡ 24 ⌝ }
     ensures { λ r. ⌜ (r ≡ true → (n : ℕ) → 3 ≤ n → n < 8 → (p .start ≤ pointerOf (now (map .entry)) n) × (pointerOf (now (map .entry)) n < border) × (p .start ≤ pointerOf (now (map .entry)) (8 + n)) × (pointerOf (now (map .entry)) (8 + n) < border)) ⌝ }
 {
+    if border < p.start {
+        return false;
+    }
     let mut n = 3;
     while n < 8 {
-        let a = pointer_of(map, n);
-        let b = pointer_of(map, 8 + n);
-        if a < p.start {
+        if !is_between(pointer_of(map, n), p.start, border) {
             return false;
         }
-        if border <= a {
-            return false;
-        }
-        if b < p.start {
-            return false;
-        }
-        if border <= b {
+        if !is_between(pointer_of(map, 8 + n), p.start, border) {
             return false;
         }
         n += 1;
@@ -115,8 +127,8 @@ fn bits_of(map: &[u8], from: usize, to: usize) -> u64
     let mut bits = 0u64;
     let mut n = from;
     while n < to {
-        bits = with_bit(bits, low_byte_of(map, n));
-        bits = with_bit(bits, low_byte_of(map, 8 + n));
+        bits = with_bit(bits, pointer_of(map, n));
+        bits = with_bit(bits, pointer_of(map, 8 + n));
         n += 1;
     }
     bits

@@ -39,17 +39,17 @@ loop-holds c =
       marks = marks-same (marks-none _ _ (λ k o. absurd (omega (arith, o .1, o .2)))) (λ k o. o) (omega arith);
     }
 
-low-byte-of-requires : tie.Need-low-byte-of-requires Inv-loop μ-loop
-low-byte-of-requires c κs = search needs
+pointer-of-requires : tie.Need-pointer-of-requires Inv-loop μ-loop
+pointer-of-requires c κs = search needs
 
 with-bit-requires : tie.Need-with-bit-requires Inv-loop μ-loop
 with-bit-requires c κs = search needs
 
-add-low-byte-of : tie.Need-add-low-byte-of Inv-loop μ-loop
-add-low-byte-of c = search needs
+add-pointer-of : tie.Need-add-pointer-of Inv-loop μ-loop
+add-pointer-of c = search needs
 
-low-byte-of-requires-2 : tie.Need-low-byte-of-requires-2 Inv-loop μ-loop
-low-byte-of-requires-2 c κs = search needs
+pointer-of-requires-2 : tie.Need-pointer-of-requires-2 Inv-loop μ-loop
+pointer-of-requires-2 c κs = search needs
 
 with-bit-requires-2 : tie.Need-with-bit-requires-2 Inv-loop μ-loop
 with-bit-requires-2 c κs = search needs
@@ -66,13 +66,11 @@ loop-again c =
     let s = c .before .before .before .before .before .before .before in
     let n = loop .n in
     let pointer : ℕ → ℕ = pointerOf (s .args .map .now) in
-    let own : c .before .before .before .low-byte-of .result % 64 ≡ pointer n % 64 = let e = c .before .before .before .low-byte-of .ensures .0 in omega arith in
-    let other : c .before .low-byte-of2 .result % 64 ≡ pointer (8 + n) % 64 = let e = c .before .low-byte-of2 .ensures .0 in omega arith in
     record {
       least = let h = loop .inv .least in omega arith;
       most = omega arith;
       marks =
-          rw (c .with-bit2 .ensures, c .before .before .with-bit .ensures, own, other)
+          rw (c .with-bit2 .ensures, c .before .before .with-bit .ensures, c .before .before .before .pointer-of .ensures .0, c .before .pointer-of2 .ensures .0)
           (marks-same (marks-more (marks-more (loop .inv .marks) n) (8 + n)) (λ k o. passed (s .args .from) n k (omega arith) o) (let h = loop .inv .least in omega arith));
     }
 
@@ -90,10 +88,10 @@ bits-of-spec =
     Inv-loop
     μ-loop
     loop-holds
-    low-byte-of-requires
+    pointer-of-requires
     with-bit-requires
-    add-low-byte-of
-    low-byte-of-requires-2
+    add-pointer-of
+    pointer-of-requires-2
     with-bit-requires-2
     add-n
     loop-less

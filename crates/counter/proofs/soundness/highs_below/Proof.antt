@@ -5,6 +5,7 @@ use borrow.Author.Count.{below-more}
 use Rattle.counter.specs.Map.{pointerOf}
 use Rattle.counter.proofs.RangeTests.{no-claim}
 use borrow.Author.Needs.{needs}
+use borrow.Author.Tests.{not-false}
 use Rattle.counter.proofs.soundness.highs_below.Statement.{statement}
 use Rattle.counter.proofs.soundness.highs_below.Tie as tie
 
@@ -19,11 +20,20 @@ Inv-loop map p border n₀ n =
 abbrev μ-loop : tie.MeasureT-loop
 μ-loop map p border n₀ n = 8 - n
 
+returns : tie.Need-returns Inv-loop μ-loop
+returns c = λ e. no-claim e
+
 loop-holds : tie.Need-loop-holds Inv-loop μ-loop
 loop-holds c = record { least = omega arith; most = omega arith; each = λ k l m. absurd (omega arith) }
 
 pointer-of-requires : tie.Need-pointer-of-requires Inv-loop μ-loop
 pointer-of-requires c κs = search needs
+
+is-between-requires : tie.Need-is-between-requires Inv-loop μ-loop
+is-between-requires c κs = search needs
+
+returns-2 : tie.Need-returns-2 Inv-loop μ-loop
+returns-2 c = λ e. no-claim e
 
 add-pointer-of : tie.Need-add-pointer-of Inv-loop μ-loop
 add-pointer-of c = search needs
@@ -31,17 +41,11 @@ add-pointer-of c = search needs
 pointer-of-requires-2 : tie.Need-pointer-of-requires-2 Inv-loop μ-loop
 pointer-of-requires-2 c κs = search needs
 
-returns : tie.Need-returns Inv-loop μ-loop
-returns c = λ e. no-claim e
-
-returns-2 : tie.Need-returns-2 Inv-loop μ-loop
-returns-2 c = λ e. no-claim e
+is-between-requires-2 : tie.Need-is-between-requires-2 Inv-loop μ-loop
+is-between-requires-2 c κs = search needs
 
 returns-3 : tie.Need-returns-3 Inv-loop μ-loop
 returns-3 c = λ e. no-claim e
-
-returns-4 : tie.Need-returns-4 Inv-loop μ-loop
-returns-4 c = λ e. no-claim e
 
 add-n : tie.Need-add-n Inv-loop μ-loop
 add-n c = search needs
@@ -51,22 +55,22 @@ loop-less c = search needs
 
 loop-again : tie.Need-loop-again Inv-loop μ-loop
 loop-again c =
-    let loop = c .before .before .before .before .before .before .before .before .before .loop in
+    let loop = c .before .before .before .before .before .before .before .loop in
     let s = c .before .before .before .before .before .before .before .before .before .before .before .args in
     let map = s .map .now in
-    let a = c .before .before .before .before .before .before .before .pointer-of .ensures .0 in
-    let b = c .before .before .before .before .before .before .pointer-of2 .ensures .0 in
+    let a = c .before .before .before .before .is-between .ensures (not-false _ (c .before .before .before .if2 .left)) in
+    let b = c .before .is-between2 .ensures (not-false _ (c .if3 .left)) in
     record {
       least = let h = loop .inv .least in omega arith;
       most = omega arith;
       each =
           below-more (λ k. 3 ≤ k → (s .p .start ≤ pointerOf map k) × (pointerOf map k < s .border) × (s .p .start ≤ pointerOf map (8 + k)) × (pointerOf map (8 + k) < s .border)) (loop .n)
           (loop .inv .each)
-          (λ m. (omega (arith, a, c .before .before .before .before .if1 .left), omega (arith, a, c .before .before .before .if2 .left), omega (arith, b, c .before .if3 .left), omega (arith, b, c .if4 .left)));
+          (λ m. let a = rw (c .before .before .before .before .before .pointer-of .ensures .0) at a in let b = rw (c .before .before .pointer-of2 .ensures .0) at b in (a .0, a .1, b .0, b .1));
     }
 
-returns-5 : tie.Need-returns-5 Inv-loop μ-loop
-returns-5 c e n m l = c .before .loop .inv .each n (omega arith) m
+returns-4 : tie.Need-returns-4 Inv-loop μ-loop
+returns-4 c e n m l = c .before .loop .inv .each n (omega arith) m
 
 pub highs-below-spec : {M : Type 1} → statement M
 highs-below-spec =
@@ -74,15 +78,16 @@ highs-below-spec =
     (tie.spec
     Inv-loop
     μ-loop
+    returns
     loop-holds
     pointer-of-requires
+    is-between-requires
+    returns-2
     add-pointer-of
     pointer-of-requires-2
-    returns
-    returns-2
+    is-between-requires-2
     returns-3
-    returns-4
     add-n
     loop-less
     loop-again
-    returns-5)
+    returns-4)
