@@ -1,13 +1,13 @@
 -- Laws of bytes put at neighbouring cells: what it keeps, what it changes, what it costs.
-use Prim.Native.Nat.{ℕ, zero, suc, _+_, _≤_, _<_}
-use mathlib.Core.Path.{_≡_, refl, sym, _∙_}
+use Prim.Native.Nat.{ℕ, zero, suc, _+_, _-_, _≤_, _<_}
+use mathlib.Core.Path.{_≡_, refl, sym, ap, _∙_}
 use mathlib.Core.Bool.{Bool, true, false}
 use mathlib.Core.List.{List, [], _∷_, _++_, append-assoc}
 use native.Mathlib.Nat.{zero-add, add-zero, add-assoc}
 use native.Mathlib.Numerals.{add-one, one-add}
 use native.Mathlib.Omega.{arith}
-use lib.ListN.{length, getD, drop, length-append}
-use lib.Seq.{drop-cons, drop-length}
+use lib.ListN.{length, getD, take, drop, length-append, length-take, length-drop, take-append-drop}
+use lib.Seq.{take-all, drop-cons, drop-length}
 use Rattle.cells.specs.declared.row.Way.the-variants.{Up}
 use Rattle.cells.specs.declared.row.Found.{Found}
 use Rattle.cells.specs.declared.row.Found.the-variants.{At, Nowhere}
@@ -214,6 +214,26 @@ module _ (b : ℕ) (bs : List ℕ) (a : ℕ) (s : Chip) {v : Seen Bool} (e : v �
   -- the first put failed
   pub row-stopped : v .answer ≡ false → view (putRow (b ∷ bs) a s) ≡ seen (At a) (v .writes) 0 (v .after)
   row-stopped h = rw (row-stop b bs a s (said-answer (putAt a b s) e h), put-tried a b s, e)
+
+-- a row in two pieces, over what is said of the first i bytes, `v`
+module _ (bytes : List ℕ) (i a : ℕ) (s : Chip) {v : Seen Found} (e : v ≡ view (putRow (take i bytes) a s)) where
+  -- a byte of the first failed
+  pub row-first-failed : (x : ℕ) → v .answer ≡ At x → view (putRow bytes a s) ≡ seen (At x) (v .writes) 0 (v .after)
+  row-first-failed x h =
+      let answer = said-answer (putRow (take i bytes) a s) e h in
+      let same : putRow bytes a s ≡ putRow (take i bytes) a s = rw (take-append-drop i bytes) at (row-alone (drop i bytes) x (take i bytes) a s answer) in
+      rw (same, e, answer, row-tried (take i bytes) a s)
+
+  -- the first held
+  pub row-first-held :
+      i ≤ length bytes → v .answer ≡ Nowhere
+      → view (putRow bytes a s) ≡ plus (v .writes) 0 (view (putRow (take (length bytes - i) (drop i bytes)) (a + i) (v .after)))
+  row-first-held l h =
+      let answer = said-answer (putRow (take i bytes) a s) e h in
+      let size : length (take i bytes) ≡ i = omega (arith, length-take i bytes) in
+      let rest : take (length bytes - i) (drop i bytes) ≡ drop i bytes = take-all (length bytes - i) (drop i bytes) (omega (arith, length-drop i bytes)) in
+      let both = rw (take-append-drop i bytes, size) at (row-behind (drop i bytes) (take i bytes) a s answer) in
+      rw (rest, both, e) (view-then (putRow (take i bytes) a s) _ ∙ rw (row-tried (take i bytes) a s))
 
 -- a row says of at most one write a byte
 pub row-few : (bs : List ℕ) (a : ℕ) (s : Chip) {v : Seen Found} → v ≡ view (putRow bs a s) → v .writes ≤ length bs

@@ -2,10 +2,11 @@
 // then the mark.
 ghost use mathlib.Core.Path.{_≡_};
 ghost use mathlib.Core.Bool.{true};
-ghost use Prim.Native.Nat.{ℕ, _<_};
+ghost use Prim.Native.Nat.{ℕ, _+_, _<_, _≤_};
 ghost use lib.ListN.{length, getD, take};
 ghost use Rattle.cells.specs.Chip.{chip};
 ghost use Rattle.cells.specs.Run.{seen, view};
+ghost use Rattle.cells.specs.Row.{putRow};
 ghost use Rattle.counter.specs.Slots.{two, kindOf};
 ghost use Rattle.counter.specs.Places.{fitted};
 ghost use Rattle.counter.specs.Map.{reachable};
@@ -21,6 +22,7 @@ use super::verdict::Refusal;
 use super::verdict::Work;
 use cells::put::put;
 use cells::row::Found;
+use cells::row::RowPut;
 use cells::row::put_row;
 use code::codes::code_of;
 
@@ -115,13 +117,40 @@ fn put_mark(image: &mut [u8], lives: &mut [u32], p: Places) -> Stored
     mapped(put_row(image, lives, p.map, &mark))
 }
 
+// The bytes of all pointers, those of one copy and then those of the other: rows short enough for the compiler to
+// lay out byte by byte.
+fn put_copies(image: &mut [u8], lives: &mut [u32], at: usize, bytes: &[u8]) -> RowPut
+    requires { ⌜ (at + length (now bytes) ≤ length (now image)) × (length (now lives) ≡ length (now image)) × (11 ≤ length (now bytes)) ⌝ }
+    ensures { λ r. ⌜ seen (r .failed) (r .writes) 0 (chip (now (image .exit)) (now (lives .exit))) ≡ view (putRow (now (bytes .entry)) at (chip (now (image .entry)) (now (lives .entry)))) ⌝ }
+{
+    let first = put_row(image, lives, at, &bytes[0..Map::COPY_SIZE]);
+    let failed = first.failed;
+    if let Found::At(address) = failed {
+        return RowPut {
+            failed: Found::At(address),
+            writes: first.writes,
+        };
+    }
+    let second = put_row(
+        image,
+        lives,
+        at + Map::COPY_SIZE,
+        &bytes[Map::COPY_SIZE..bytes.len()],
+    );
+    let failed = second.failed;
+    RowPut {
+        failed,
+        writes: first.writes + second.writes,
+    }
+}
+
 // The map: addresses put as the pointers of all slots, as one row of bytes, and then the mark.
 fn put_map(image: &mut [u8], lives: &mut [u32], p: Places, addresses: &[usize; 16]) -> Stored
     requires { ⌜ (fitted two p (chip (now image) (now lives)) ≡ true) × (length (now addresses) ≡ 16) × ((k : ℕ) → k < 16 → (getD (now addresses) k 0 < 65536) × (reachable (kindOf k) (getD (now addresses) k 0) ≡ true)) ⌝ }
     ensures { λ r. ⌜ seen (r .work) (r .writes) (r .tried) (chip (now (image .exit)) (now (lives .exit))) ≡ view (putPointers (now (addresses .entry)) 0 p (chip (now (image .entry)) (now (lives .entry))) andThen putMark p) ⌝ }
 {
     let bytes = pointer_row(addresses);
-    let row = put_row(image, lives, p.map + Map::FIRST_COPY, &bytes);
+    let row = put_copies(image, lives, p.map + Map::FIRST_COPY, &bytes);
     let failed = row.failed;
     if let Found::At(address) = failed {
         return Stored {

@@ -12,20 +12,20 @@ use Rattle.counter.proofs.opening.put_map.Tie as tie
 pointer-row-requires : tie.Need-pointer-row-requires
 pointer-row-requires c κs = (c .before .before .pre .1, c .before .before .pre .2)
 
-add-put-row : tie.Need-add-put-row
-add-put-row c =
+add-put-copies : tie.Need-add-put-copies
+add-put-copies c =
     let ready = fitted-ready (c .before .before .before .before .before .before .pre .0) in
     let good = ready-placed ready in
     omega (arith, ready-short ready)
 
-slice-aggregate-put-row : tie.Need-slice-aggregate-put-row
-slice-aggregate-put-row c = search needs
+slice-aggregate-put-copies : tie.Need-slice-aggregate-put-copies
+slice-aggregate-put-copies c = search needs
 
-put-row-requires : tie.Need-put-row-requires
-put-row-requires c κs =
+put-copies-requires : tie.Need-put-copies-requires
+put-copies-requires c κs =
     let ready = fitted-ready (c .before .before .before .before .before .before .before .pre .0) in
     let good = ready-placed ready in
-    (omega arith, ready .paired)
+    (omega arith, ready .paired, omega arith)
 
 enum-known-failed : tie.Need-enum-known-failed
 enum-known-failed c = search needs
@@ -39,7 +39,7 @@ same-length-2 c = search needs
 returns : tie.Need-returns
 returns c =
     let row = c .before .before .before .before .before .before .before in
-    sym (map-stopped _ _ _ (rw (row .before .before .before .before .before .pointer-row .ensures) at (row .put-row .ensures)) (c .before .failed .given .1))
+    sym (map-stopped _ _ _ (rw (row .before .before .before .before .before .pointer-row .ensures) at (row .put-copies .ensures)) (c .before .failed .given .1))
 
 enum-told : tie.Need-enum-told
 enum-told c = search needs
@@ -47,13 +47,13 @@ enum-told c = search needs
 put-mark-requires : tie.Need-put-mark-requires
 put-mark-requires c κs =
     let row = c .before .before .before .before .before .before .before .before in
-    ready-fitted (ready-same (fitted-ready (row .before .before .before .before .before .before .before .before .pre .0)) (row .put-row .kept .0) (row .put-row .kept .1 .0))
+    ready-fitted (ready-same (fitted-ready (row .before .before .before .before .before .before .before .before .pre .0)) (row .put-copies .kept .0) (row .put-copies .kept .1 .0))
 
 add-t16 : tie.Need-add-t16
 add-t16 c =
     let mark = c .before .before .before .before .before .before in
     let row = mark .before .before .before .before .before .before .before .before .before in
-    omega (arith, row-few _ _ _ (row .put-row .ensures), mark-few _ _ (mark .put-mark .ensures) .0)
+    omega (arith, row-few _ _ _ (row .put-copies .ensures), mark-few _ _ (mark .put-mark .ensures) .0)
 
 same-length-3 : tie.Need-same-length-3
 same-length-3 c = search needs
@@ -65,16 +65,16 @@ returns-2 : tie.Need-returns-2
 returns-2 c =
     let mark = c .before .before .before .before .before .before in
     let row = mark .before .before .before .before .before .before .before .before .before in
-    sym (map-marked _ _ _ (rw (row .before .before .before .before .before .pointer-row .ensures) at (row .put-row .ensures)) (mark .before .before .before .enum-told .given .1) (mark .put-mark .ensures))
+    sym (map-marked _ _ _ (rw (row .before .before .before .before .before .pointer-row .ensures) at (row .put-copies .ensures)) (mark .before .before .before .enum-told .given .1) (mark .put-mark .ensures))
 
 pub put-map-spec : {M : Type 1} → statement M
 put-map-spec =
     tie.close
     (tie.spec
     pointer-row-requires
-    add-put-row
-    slice-aggregate-put-row
-    put-row-requires
+    add-put-copies
+    slice-aggregate-put-copies
+    put-copies-requires
     enum-known-failed
     same-length
     same-length-2
