@@ -281,7 +281,7 @@ pub fn wide(byte: u8) -> usize
 }
 
 // The entry of a byte in a table that is lent.
-pub(crate) fn entry_in(table: &[u8; 256], byte: u8) -> u8
+fn entry_in(table: &[u8; 256], byte: u8) -> u8
     ensures { λ r. ⌜ r ≡ getD (now (table .entry)) byte 0 ⌝ }
 {
     table[byte as usize]

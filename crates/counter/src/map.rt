@@ -3,7 +3,6 @@
 ghost use mathlib.Core.Path.{_≡_};
 ghost use Prim.Native.Nat.{ℕ, _+_, _≤_, _<_};
 ghost use lib.ListN.{length, getD, take, drop};
-ghost use Rattle.counter.specs.Slots.{kindOf};
 ghost use Rattle.counter.specs.Map.{marked, offsetOf, pointerOf};
 use code::table::wide;
 
@@ -48,16 +47,6 @@ impl Map {
         let to = from + Map::SIZE;
         &image[from..to]
     }
-}
-
-// The kind of a slot's cells.
-pub(crate) fn kind_of(slot: usize) -> Kind
-    ensures { λ r. ⌜ r ≡ kindOf slot ⌝ }
-{
-    if slot % 8 < 3 {
-        return Kind::Low;
-    }
-    Kind::High
 }
 
 // Whether both bytes of the mark are there.

@@ -147,7 +147,7 @@ fn decided(first: u32, second: u32) -> Verdict
 }
 
 // What the bytes of the slots come to.
-pub(crate) fn weighed(data: &[u8; 16]) -> Verdict
+fn weighed(data: &[u8; 16]) -> Verdict
     ensures { λ r. ⌜ r ≡ weigh two (listed (now («data» .entry))) ⌝ }
 {
     let entries = entries_of(data);
@@ -205,7 +205,7 @@ pub struct Finding {
 }
 
 // What the bytes of the slots come to: where both copies are the same codes, there is nothing to weigh.
-pub(crate) fn found_in(image: &[u8], map: &[u8]) -> Finding
+fn found_in(image: &[u8], map: &[u8]) -> Finding
     requires { ⌜ Reaches (now image) (now map) ⌝ }
     ensures { λ r. ⌜ (r .verdict ≡ weigh two (dataAt (now (image .entry)) (now (map .entry)))) × (r .exact ≡ true → (c : ℕ) (lag : ℤ) → r .verdict ≡ Good c lag → (k : ℕ) → k < 16 → dataAt (now (image .entry)) (now (map .entry)) k ≡ slotCode c k) ⌝ }
 {
@@ -227,7 +227,7 @@ pub(crate) fn found_in(image: &[u8], map: &[u8]) -> Finding
 }
 
 // What a marked image with good settings reads as.
-pub(crate) fn examined(image: &[u8], p: Places) -> Finding
+fn examined(image: &[u8], p: Places) -> Finding
     requires { ⌜ (lengthGood two (length (now image)) ≡ true) × (placesGood two (length (now image)) p ≡ true) ⌝ }
     ensures { λ r. ⌜ (r .verdict ≡ examine two p (now (image .entry))) × (r .exact ≡ true → (c : ℕ) (lag : ℤ) → r .verdict ≡ Good c lag → Holds two p c (now (image .entry))) ⌝ }
 {

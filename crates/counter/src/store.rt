@@ -63,13 +63,7 @@ pub(crate) fn mapped(row: RowPut) -> Stored
 }
 
 // An address put as a slot's pointer, low byte first.
-pub(crate) fn put_pointer(
-    image: &mut [u8],
-    lives: &mut [u32],
-    p: Places,
-    slot: usize,
-    a: usize,
-) -> Stored
+fn put_pointer(image: &mut [u8], lives: &mut [u32], p: Places, slot: usize, a: usize) -> Stored
     requires { ⌜ (fitted two p (chip (now image) (now lives)) ≡ true) × (slot < 16) × (a < 65536) × (reachable (kindOf slot) a ≡ true) ⌝ }
     ensures { λ r. ⌜ seen (r .work) (r .writes) (r .tried) (chip (now (image .exit)) (now (lives .exit))) ≡ view (putPointer p slot a (chip (now (image .entry)) (now (lives .entry)))) ⌝ }
 {
@@ -84,13 +78,7 @@ pub(crate) fn put_pointer(
 }
 
 // The spares of a slot's kind that a gap leaves, tried one after another until one holds the byte.
-pub(crate) fn try_spares(
-    image: &mut [u8],
-    lives: &mut [u32],
-    slot: usize,
-    gap: Gap,
-    byte: u8,
-) -> Walked
+fn try_spares(image: &mut [u8], lives: &mut [u32], slot: usize, gap: Gap, byte: u8) -> Walked
     requires { ⌜ (length (now lives) ≡ length (now image)) × (1 ≤ gap .high) × (gap .high ≤ 256) × (gap .high ≤ gap .low) × (gap .low ≤ length (now image)) ⌝ }
     ensures { λ r. ⌜ seen (r .found) (r .writes) (r .tried) (chip (now (image .exit)) (now (lives .exit))) ≡ view (trySpares slot gap byte (chip (now (image .entry)) (now (lives .entry)))) ⌝ }
 {
@@ -131,13 +119,7 @@ fn move_slot(image: &mut [u8], lives: &mut [u32], p: Places, slot: usize, byte: 
 }
 
 // A byte put at a slot's cell, and moved if the put fails.
-pub(crate) fn store_slot(
-    image: &mut [u8],
-    lives: &mut [u32],
-    p: Places,
-    slot: usize,
-    byte: u8,
-) -> Stored
+fn store_slot(image: &mut [u8], lives: &mut [u32], p: Places, slot: usize, byte: u8) -> Stored
     requires { ⌜ (fitted two p (chip (now image) (now lives)) ≡ true) × (sound two p (pointerOf (mapIn two p (now image))) ≡ true) × (slot < 16) ⌝ }
     ensures { λ r. ⌜ seen (r .work) (r .writes) (r .tried) (chip (now (image .exit)) (now (lives .exit))) ≡ view (storeSlot two p slot byte (chip (now (image .entry)) (now (lives .entry)))) ⌝ }
 {
