@@ -24,14 +24,33 @@ pub(crate) fn length_good(n: usize) -> bool
     true
 }
 
-// Whether the place settings are good for an image of n cells. No sum can wrap.
+// Whether the place settings are good for an image of n cells. No sum can wrap. A map below the area is in the image
+// where the area is.
 pub(crate) fn places_good(n: usize, p: Places) -> bool
     ensures { λ r. ⌜ r ≡ placesGood two n p ⌝ }
 {
+    if p.start < 1 {
+        return false;
+    }
+    if 246 < p.start {
+        return false;
+    }
+    if n <= p.end {
+        return false;
+    }
+    if p.end < p.start + (Map::SLOTS - 1) {
+        return false;
+    }
     if p.map < 1 {
         return false;
     }
-    if p.start < 1 {
+    if p.map <= p.start {
+        if p.start - p.map < Map::SIZE {
+            return false;
+        }
+        return true;
+    }
+    if p.map <= p.end {
         return false;
     }
     if n < Map::SIZE {
@@ -40,20 +59,5 @@ pub(crate) fn places_good(n: usize, p: Places) -> bool
     if n - Map::SIZE < p.map {
         return false;
     }
-    if n <= p.end {
-        return false;
-    }
-    if 246 < p.start {
-        return false;
-    }
-    if p.end + 1 < p.start + Map::SLOTS {
-        return false;
-    }
-    if p.map + Map::SIZE <= p.start {
-        return true;
-    }
-    if p.end < p.map {
-        return true;
-    }
-    false
+    true
 }

@@ -17,6 +17,12 @@ returns-2 c = sym (not-placed two _ _ (λ g. omega arith))
 returns-3 : tie.Need-returns-3
 returns-3 c = sym (not-placed two _ _ (λ g. omega arith))
 
+sub-if4 : tie.Need-sub-if4
+sub-if4 c = search needs
+
+add-if4 : tie.Need-add-if4
+add-if4 c = search needs
+
 returns-4 : tie.Need-returns-4
 returns-4 c = sym (not-placed two _ _ (λ g. omega arith))
 
@@ -24,22 +30,10 @@ returns-5 : tie.Need-returns-5
 returns-5 c = sym (not-placed two _ _ (λ g. omega arith))
 
 returns-6 : tie.Need-returns-6
-returns-6 c = sym (not-placed two _ _ (λ g. omega arith))
-
-add-if7 : tie.Need-add-if7
-add-if7 c = search needs
-
-add-if7-2 : tie.Need-add-if7-2
-add-if7-2 c = search needs
+returns-6 c = sym (not-placed two _ _ (λ g. ⊎-elim (λ x. omega arith) (λ x. omega arith) (g .apart)))
 
 returns-7 : tie.Need-returns-7
-returns-7 c = sym (not-placed two _ _ (λ g. omega arith))
-
-add-if8 : tie.Need-add-if8
-add-if8 c = search needs
-
-returns-8 : tie.Need-returns-8
-returns-8 c =
+returns-7 c =
     sym
     (placed-good two _ _ (record {
       mapLow = omega arith;
@@ -51,8 +45,17 @@ returns-8 c =
       apart = inl (omega arith);
     }))
 
+returns-8 : tie.Need-returns-8
+returns-8 c = sym (not-placed two _ _ (λ g. ⊎-elim (λ x. omega arith) (λ x. omega arith) (g .apart)))
+
 returns-9 : tie.Need-returns-9
-returns-9 c =
+returns-9 c = sym (not-placed two _ _ (λ g. omega arith))
+
+returns-10 : tie.Need-returns-10
+returns-10 c = sym (not-placed two _ _ (λ g. omega arith))
+
+returns-11 : tie.Need-returns-11
+returns-11 c =
     sym
     (placed-good two _ _ (record {
       mapLow = omega arith;
@@ -64,9 +67,6 @@ returns-9 c =
       apart = inr (omega arith);
     }))
 
-returns-10 : tie.Need-returns-10
-returns-10 c = sym (not-placed two _ _ (λ g. ⊎-elim (λ x. omega arith) (λ x. omega arith) (g .apart)))
-
 pub places-good-spec : {M : Type 1} → statement M
 places-good-spec =
     tie.close
@@ -74,13 +74,13 @@ places-good-spec =
     returns
     returns-2
     returns-3
+    sub-if4
+    add-if4
     returns-4
     returns-5
     returns-6
-    add-if7
-    add-if7-2
     returns-7
-    add-if8
     returns-8
     returns-9
-    returns-10)
+    returns-10
+    returns-11)
