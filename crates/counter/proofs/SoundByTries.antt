@@ -116,10 +116,10 @@ is-low k e = go (decLt (k % 8) 3)
     go (yes h) = h
     go (no h) = absurd (unlike (sym (kind-high k (omega arith)) ∙ e))
 
--- in two copies, Low pointers from x up to the area's end, x at most 256, and High ones from its start up to x
+-- in two copies, Low pointers from x up to the area's end, and High ones from its start up to x, at most 255
 module _ (p : Places) (pointer : ℕ → ℕ) (x : ℕ)
-    (lows : 0 < x → (x ≤ 256) × ((n : ℕ) → n < 3 → (x ≤ pointer n) × (pointer n ≤ p .end) × (x ≤ pointer (8 + n)) × (pointer (8 + n) ≤ p .end)))
-    (highs : (n : ℕ) → 3 ≤ n → n < 8 → (p .start ≤ pointer n) × (pointer n < x) × (p .start ≤ pointer (8 + n)) × (pointer (8 + n) < x)) where
+    (lows : 0 < x → (n : ℕ) → n < 3 → (x ≤ pointer n) × (pointer n ≤ p .end) × (x ≤ pointer (8 + n)) × (pointer (8 + n) ≤ p .end))
+    (highs : (n : ℕ) → 3 ≤ n → n < 8 → (p .start ≤ pointer n) × (pointer n < x) × (pointer n < 256) × (p .start ≤ pointer (8 + n)) × (pointer (8 + n) < x) × (pointer (8 + n) < 256)) where
   positive : 0 < x
   positive = let h = highs 3 (omega arith) (omega arith) .1 in omega arith
 
@@ -127,21 +127,21 @@ module _ (p : Places) (pointer : ℕ → ℕ) (x : ℕ)
   low-at k l low = go (decLt k 8)
     where
       go : Dec (k < 8) → (x ≤ pointer k) × (pointer k ≤ p .end)
-      go (yes h) = let f = lows positive .1 k (omega arith) in (f .0, f .1)
+      go (yes h) = let f = lows positive k (omega arith) in (f .0, f .1)
       go (no h) =
           let e : 8 + (k - 8) ≡ k = omega arith in
-          let f = lows positive .1 (k - 8) (omega arith) in
+          let f = lows positive (k - 8) (omega arith) in
           (rw e at (f .2), rw e at (f .3))
 
-  high-at : (k : ℕ) → k < 16 → 3 ≤ k % 8 → (p .start ≤ pointer k) × (pointer k < x)
+  high-at : (k : ℕ) → k < 16 → 3 ≤ k % 8 → (p .start ≤ pointer k) × (pointer k < x) × (pointer k < 256)
   high-at k l high = go (decLt k 8)
     where
-      go : Dec (k < 8) → (p .start ≤ pointer k) × (pointer k < x)
-      go (yes h) = let f = highs k (omega arith) h in (f .0, f .1)
+      go : Dec (k < 8) → (p .start ≤ pointer k) × (pointer k < x) × (pointer k < 256)
+      go (yes h) = let f = highs k (omega arith) h in (f .0, f .1, f .2)
       go (no h) =
           let e : 8 + (k - 8) ≡ k = omega arith in
           let f = highs (k - 8) (omega arith) (omega arith) in
-          (rw e at (f .2), rw e at (f .3))
+          (rw e at (f .3), rw e at (f .4), rw e at (f .5))
 
   inside-at : (k : ℕ) → k < 16 → Inside p (pointer k)
   inside-at k l = go (decLt (k % 8) 3)
@@ -153,13 +153,13 @@ module _ (p : Places) (pointer : ℕ → ℕ) (x : ℕ)
           record { from = omega (arith, f .0, first .0, first .1); to = f .1 }
       go (no high) =
           let f = high-at k l (omega arith) in
-          let first = lows positive .1 0 (omega arith) in
+          let first = lows positive 0 (omega arith) in
           record { from = f .0; to = omega (arith, f .1, first .0, first .1) }
 
   pub border-tries : every 16 (follows two p pointer) ≡ true
   border-tries =
       ordered-tries two p pointer inside-at
-      (λ k l high. let f = high-at k l (is-high k high) .1 in let top = lows positive .0 in omega arith)
+      (λ k l high. let f = high-at k l (is-high k high) .2 in omega arith)
       (λ i j l m high low. let f = high-at i l (is-high i high) .1 in let g = low-at j m (is-low j low) .0 in omega arith)
 
 -- pointers in order differ where those of each kind do

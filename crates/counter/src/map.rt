@@ -1,7 +1,7 @@
 // The map (document 01, "The map"), handed on as the part of the image that starts at its place: its mark
 // and its pointers. Slot k stands for nibble k % 8 of copy k / 8.
 ghost use mathlib.Core.Path.{_≡_};
-ghost use Prim.Native.Nat.{ℕ, _+_, _≤_, _<_};
+ghost use Prim.Native.Nat.{ℕ, _+_, _%_, _≤_, _<_};
 ghost use lib.ListN.{length, getD, take, drop};
 ghost use Rattle.counter.specs.Map.{marked, offsetOf, pointerOf};
 use code::table::wide;
@@ -79,7 +79,7 @@ pub(crate) fn offset_of(slot: usize) -> usize
 // A slot's pointer: two bytes, low byte first, for a Low one, and one for a High one.
 pub(crate) fn pointer_of(map: &[u8], slot: usize) -> usize
     requires { ⌜ (length (now map) ≡ 24) × (slot < 16) ⌝ }
-    ensures { λ r. ⌜ (r ≡ pointerOf (now (map .entry)) slot) × (r < 65536) ⌝ }
+    ensures { λ r. ⌜ (r ≡ pointerOf (now (map .entry)) slot) × (r < 65536) × (3 ≤ slot % 8 → r < 256) ⌝ }
 {
     if slot % 8 < 3 {
         let at = offset_of(slot);

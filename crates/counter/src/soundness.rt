@@ -38,12 +38,12 @@ fn higher(a: usize, b: usize) -> usize
     a
 }
 
-// A number at most 256 and at most every Low pointer, or 0 where one is past the area's end.
+// A number at most every Low pointer, or 0 where one is past the area's end.
 fn low_border(map: &[u8], p: Places) -> usize
     requires { ⌜ length (now map) ≡ 24 ⌝ }
-    ensures { λ r. ⌜ (0 < r → (r ≤ 256) × ((n : ℕ) → n < 3 → (r ≤ pointerOf (now (map .entry)) n) × (pointerOf (now (map .entry)) n ≤ p .end) × (r ≤ pointerOf (now (map .entry)) (8 + n)) × (pointerOf (now (map .entry)) (8 + n) ≤ p .end))) ⌝ }
+    ensures { λ r. ⌜ (0 < r → (n : ℕ) → n < 3 → (r ≤ pointerOf (now (map .entry)) n) × (pointerOf (now (map .entry)) n ≤ p .end) × (r ≤ pointerOf (now (map .entry)) (8 + n)) × (pointerOf (now (map .entry)) (8 + n) ≤ p .end)) ⌝ }
 {
-    let mut border = 256;
+    let mut border = 65535;
     let mut last = 0;
     let mut n = 0;
     while n < 3 {
@@ -67,10 +67,10 @@ fn is_between(a: usize, start: usize, border: usize) -> bool
     wrapping_sub_usize(a, start) < border - start
 }
 
-// Whether every High pointer is in the area and below a border.
+// Whether every High pointer is in the area and below a border. One is a byte, so that it is at most 255.
 fn highs_below(map: &[u8], p: Places, border: usize) -> bool
     requires { ⌜ length (now map) ≡ 24 ⌝ }
-    ensures { λ r. ⌜ (r ≡ true → (n : ℕ) → 3 ≤ n → n < 8 → (p .start ≤ pointerOf (now (map .entry)) n) × (pointerOf (now (map .entry)) n < border) × (p .start ≤ pointerOf (now (map .entry)) (8 + n)) × (pointerOf (now (map .entry)) (8 + n) < border)) ⌝ }
+    ensures { λ r. ⌜ (r ≡ true → (n : ℕ) → 3 ≤ n → n < 8 → (p .start ≤ pointerOf (now (map .entry)) n) × (pointerOf (now (map .entry)) n < border) × (pointerOf (now (map .entry)) n < 256) × (p .start ≤ pointerOf (now (map .entry)) (8 + n)) × (pointerOf (now (map .entry)) (8 + n) < border) × (pointerOf (now (map .entry)) (8 + n) < 256)) ⌝ }
 {
     if border < p.start {
         return false;

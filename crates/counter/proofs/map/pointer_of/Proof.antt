@@ -46,7 +46,7 @@ returns c =
     = rw (← at) (sym (c .before .before .wide .ensures .0)) in
     let high : byteAt (s .args .map .now) (offsetOf (s .args .slot) + 1) ≡ c .wide2 .result = rw (← at) (sym (c .wide2 .ensures .0)) in
     let pointer = pointer-low (s .args .map .now) (s .args .slot) (c .before .before .before .before .before .if1 .taken) in
-    (omega arith, omega arith)
+    (omega arith, omega arith, λ h. absurd (omega arith))
 
 offset-of-requires-2 : tie.Need-offset-of-requires-2
 offset-of-requires-2 c κs = search needs
@@ -65,7 +65,7 @@ returns-2 c =
     let at = c .before .before .offset-of2 .ensures in
     let byte : byteAt (s .args .map .now) (offsetOf (s .args .slot)) ≡ c .wide3 .result = rw (← at) (sym (c .wide3 .ensures .0)) in
     let pointer = pointer-high (s .args .map .now) (s .args .slot) (c .before .before .before .if1 .left) in
-    (omega arith, omega arith)
+    (omega arith, omega arith, λ h. c .wide3 .ensures .1)
 
 pub pointer-of-spec : {M : Type 1} → statement M
 pointer-of-spec =

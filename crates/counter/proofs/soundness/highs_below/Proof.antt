@@ -14,7 +14,7 @@ Inv-loop map p border n₀ n =
     record {
       least : 3 ≤ n;
       most : n ≤ 8;
-      each : (k : ℕ) → k < n → 3 ≤ k → (p .start ≤ pointerOf map k) × (pointerOf map k < border) × (p .start ≤ pointerOf map (8 + k)) × (pointerOf map (8 + k) < border);
+      each : (k : ℕ) → k < n → 3 ≤ k → (p .start ≤ pointerOf map k) × (pointerOf map k < border) × (pointerOf map k < 256) × (p .start ≤ pointerOf map (8 + k)) × (pointerOf map (8 + k) < border) × (pointerOf map (8 + k) < 256);
     }
 
 abbrev μ-loop : tie.MeasureT-loop
@@ -64,9 +64,12 @@ loop-again c =
       least = let h = loop .inv .least in omega arith;
       most = omega arith;
       each =
-          below-more (λ k. 3 ≤ k → (s .p .start ≤ pointerOf map k) × (pointerOf map k < s .border) × (s .p .start ≤ pointerOf map (8 + k)) × (pointerOf map (8 + k) < s .border)) (loop .n)
+          below-more (λ k. 3 ≤ k → (s .p .start ≤ pointerOf map k) × (pointerOf map k < s .border) × (pointerOf map k < 256) × (s .p .start ≤ pointerOf map (8 + k)) × (pointerOf map (8 + k) < s .border) × (pointerOf map (8 + k) < 256)) (loop .n)
           (loop .inv .each)
-          (λ m. let a = rw (c .before .before .before .before .before .pointer-of .ensures .0) at a in let b = rw (c .before .before .pointer-of2 .ensures .0) at b in (a .0, a .1, b .0, b .1));
+          (λ m.
+          let own = c .before .before .before .before .before .pointer-of .ensures in
+          let other = c .before .before .pointer-of2 .ensures in
+          (rw (own .0) at (a .0), rw (own .0) at (a .1), rw (own .0) at (own .2 (omega arith)), rw (other .0) at (b .0), rw (other .0) at (b .1), rw (other .0) at (other .2 (omega arith))));
     }
 
 returns-4 : tie.Need-returns-4 Inv-loop μ-loop

@@ -11,7 +11,6 @@ abbrev Inv-loop : tie.InvT-loop
 Inv-loop map p border₀ last₀ n₀ border last n =
     record {
       most : n ≤ 3;
-      top : border ≤ 256;
       each : (k : ℕ) → k < n → (border ≤ pointerOf map k) × (pointerOf map k ≤ last) × (border ≤ pointerOf map (8 + k)) × (pointerOf map (8 + k) ≤ last);
     }
 
@@ -19,7 +18,7 @@ abbrev μ-loop : tie.MeasureT-loop
 μ-loop map p border₀ last₀ n₀ border last n = 3 - n
 
 loop-holds : tie.Need-loop-holds Inv-loop μ-loop
-loop-holds c = record { most = omega arith; top = omega arith; each = λ k l. absurd (omega arith) }
+loop-holds c = record { most = omega arith; each = λ k l. absurd (omega arith) }
 
 pointer-of-requires : tie.Need-pointer-of-requires Inv-loop μ-loop
 pointer-of-requires c κs = search needs
@@ -62,7 +61,6 @@ loop-again c =
     let last = c .higher2 .result in
     record {
       most = omega arith;
-      top = let h = loop .inv .top in omega arith;
       each =
           below-more (λ k. (border ≤ pointerOf map k) × (pointerOf map k ≤ last) × (border ≤ pointerOf map (8 + k)) × (pointerOf map (8 + k) ≤ last)) (loop .n)
           (λ k l.
@@ -78,7 +76,7 @@ returns-2 : tie.Need-returns-2 Inv-loop μ-loop
 returns-2 c h =
     let inv = c .before .before .before .loop .inv in
     let inside = c .if1 .left in
-    (inv .top, λ n l. let f = inv .each n (omega arith) in (f .0, omega (arith, f .1, inside), f .2, omega (arith, f .3, inside)))
+    λ n l. let f = inv .each n (omega arith) in (f .0, omega (arith, f .1, inside), f .2, omega (arith, f .3, inside))
 
 pub low-border-spec : {M : Type 1} → statement M
 low-border-spec =
