@@ -35,7 +35,8 @@ struct Takings {
 }
 
 // 80 put for every slot, each at the next address of its kind that holds it. An address that does not is passed
-// over, as if it were taken. `high` is the next High address and `low` the lowest Low pointer, as in a gap.
+// over, as if it were taken. `high` is the next High address and `low` the lowest Low pointer, as in a gap. The Low
+// slots of a copy have a loop of their own, and so have its High slots, so that no turn asks which kind it serves.
 fn take_addresses(image: &mut [u8], lives: &mut [u32], p: Places) -> Takings
     requires { ⌜ fitted two p (chip (now image) (now lives)) ≡ true ⌝ }
     ensures { λ r. ⌜ seen (taken (r .work) (take (r .count) (r .addresses))) (r .writes) 0 (chip (now (image .exit)) (now (lives .exit))) ≡ view (untried (takeFrom 16 0 (wholeArea p) (chip (now (image .entry)) (now (lives .entry))))) ⌝ }
@@ -46,15 +47,15 @@ fn take_addresses(image: &mut [u8], lives: &mut [u32], p: Places) -> Takings
     let mut writes = 0;
     let mut slot = 0;
     while slot < Map::SLOTS {
-        if high == low {
-            return Takings {
-                work: Work::Stopped(Refusal::NoSpare(slot)),
-                addresses,
-                count: slot,
-                writes,
-            };
-        }
-        if slot % 8 < 3 {
+        while slot % 8 < 3 {
+            if high == low {
+                return Takings {
+                    work: Work::Stopped(Refusal::NoSpare(slot)),
+                    addresses,
+                    count: slot,
+                    writes,
+                };
+            }
             low -= 1;
             let done = put(image, lives, low, code_of(0));
             writes += done.writes;
@@ -62,8 +63,17 @@ fn take_addresses(image: &mut [u8], lives: &mut [u32], p: Places) -> Takings
                 addresses[slot] = low;
                 slot += 1;
             }
-        } else {
+        }
+        while 3 <= slot % 8 {
             let at = high;
+            if at == low {
+                return Takings {
+                    work: Work::Stopped(Refusal::NoSpare(slot)),
+                    addresses,
+                    count: slot,
+                    writes,
+                };
+            }
             if at == 256 {
                 return Takings {
                     work: Work::Stopped(Refusal::NoSpare(slot)),
