@@ -46,7 +46,7 @@ fn case_15(image: &mut [u8], lives: &mut [u32]) {
 }
 
 // Opens a blank chip of at most 512 cells.
-pub fn say_blank(name: &[u8], n: usize, m: usize, s: usize, e: usize) {
+pub(crate) fn say_blank(name: &[u8], n: usize, m: usize, s: usize, e: usize) {
     let mut image = [BLANK; 512];
     let mut lives = [AMPLE; 512];
     if n <= 512 {
@@ -66,7 +66,7 @@ fn case_16() {
 
 // Setting A opened and brought to 4294967294, whose word is 80000001 hex: nibble 0 is 1, in cells 128 and 125, and
 // nibble 7 is 8, in cells 29 and 34.
-pub fn near_the_end(image: &mut [u8], lives: &mut [u32]) {
+pub(crate) fn near_the_end(image: &mut [u8], lives: &mut [u32]) {
     opened(image, lives, END_A);
     set_both(image, 128, 125, 0x07);
     set_both(image, 29, 34, 0x34);
@@ -81,7 +81,7 @@ fn case_17(image: &mut [u8], lives: &mut [u32]) {
 }
 
 // The four, on a chip of setting A.
-pub fn cases(image: &mut [u8], lives: &mut [u32]) {
+pub(crate) fn cases(image: &mut [u8], lives: &mut [u32]) {
     case_14(image, lives);
     case_15(image, lives);
     case_16();

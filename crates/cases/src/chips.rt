@@ -29,43 +29,43 @@ fn renew(lives: &mut [u32]) {
     }
 }
 
-pub fn blank(image: &mut [u8], lives: &mut [u32]) {
+pub(crate) fn blank(image: &mut [u8], lives: &mut [u32]) {
     clear(image);
     renew(lives);
 }
 
-pub fn set(image: &mut [u8], at: usize, byte: u8) {
+pub(crate) fn set(image: &mut [u8], at: usize, byte: u8) {
     if at < image.len() {
         image[at] = byte;
     }
 }
 
 // Sets a nibble's cells in the two copies.
-pub fn set_both(image: &mut [u8], first: usize, second: usize, byte: u8) {
+pub(crate) fn set_both(image: &mut [u8], first: usize, second: usize, byte: u8) {
     set(image, first, byte);
     set(image, second, byte);
 }
 
-pub fn wear(lives: &mut [u32], at: usize) {
+pub(crate) fn wear(lives: &mut [u32], at: usize) {
     if at < lives.len() {
         lives[at] = 0;
     }
 }
 
-pub fn open(image: &mut [u8], lives: &mut [u32], end: usize) -> Answer {
+pub(crate) fn open(image: &mut [u8], lives: &mut [u32], end: usize) -> Answer {
     doors::open(image, lives, MAP, START, end)
 }
 
-pub fn read(image: &[u8], end: usize) -> Answer {
+pub(crate) fn read(image: &[u8], end: usize) -> Answer {
     doors::read(image, MAP, START, end)
 }
 
-pub fn step(image: &mut [u8], lives: &mut [u32], end: usize) -> Answer {
+pub(crate) fn step(image: &mut [u8], lives: &mut [u32], end: usize) -> Answer {
     doors::step(image, lives, MAP, START, end)
 }
 
 // A blank chip, opened.
-pub fn opened(image: &mut [u8], lives: &mut [u32], end: usize) {
+pub(crate) fn opened(image: &mut [u8], lives: &mut [u32], end: usize) {
     blank(image, lives);
     open(image, lives, end);
 }

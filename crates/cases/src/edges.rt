@@ -151,14 +151,14 @@ fn moves(image: &mut [u8], lives: &mut [u32]) {
 }
 
 // Those on a chip of setting A.
-pub fn on_setting_a(image: &mut [u8], lives: &mut [u32]) {
+pub(crate) fn on_setting_a(image: &mut [u8], lives: &mut [u32]) {
     marks_and_readings(image, lives);
     lags(image, lives);
     moves(image, lives);
 }
 
 // Those on a chip of 512 cells.
-pub fn on_the_largest(image: &mut [u8], lives: &mut [u32]) {
+pub(crate) fn on_the_largest(image: &mut [u8], lives: &mut [u32]) {
     pointer_bytes_of_ff();
     place_near_the_top();
     high_byte_fails(image, lives);
@@ -166,7 +166,7 @@ pub fn on_the_largest(image: &mut [u8], lives: &mut [u32]) {
 }
 
 // Those on a chip of 41 cells.
-pub fn on_the_smallest(image: &mut [u8], lives: &mut [u32]) {
+pub(crate) fn on_the_smallest(image: &mut [u8], lives: &mut [u32]) {
     starved_high(image, lives);
     refused_step_that_counted(image, lives);
 }

@@ -42,18 +42,18 @@ fn end_line() {
     io::write_all(STDOUT_FILENO, b"\n");
 }
 
-pub fn say(name: &[u8], answer: Answer) {
+pub(crate) fn say(name: &[u8], answer: Answer) {
     print_answer(name, answer);
     end_line();
 }
 
-pub fn say_cell(name: &[u8], answer: Answer, image: &[u8], at: usize) {
+pub(crate) fn say_cell(name: &[u8], answer: Answer, image: &[u8], at: usize) {
     print_answer(name, answer);
     print_cell(image, at);
     end_line();
 }
 
-pub fn say_cells(name: &[u8], answer: Answer, image: &[u8], first: usize, second: usize) {
+pub(crate) fn say_cells(name: &[u8], answer: Answer, image: &[u8], first: usize, second: usize) {
     print_answer(name, answer);
     print_cell(image, first);
     print_cell(image, second);
@@ -61,14 +61,14 @@ pub fn say_cells(name: &[u8], answer: Answer, image: &[u8], first: usize, second
 }
 
 // Calls of the doors, and their lines.
-pub fn say_open(name: &[u8], image: &mut [u8], lives: &mut [u32], end: usize) {
+pub(crate) fn say_open(name: &[u8], image: &mut [u8], lives: &mut [u32], end: usize) {
     say(name, open(image, lives, end));
 }
 
-pub fn say_read(name: &[u8], image: &[u8], end: usize) {
+pub(crate) fn say_read(name: &[u8], image: &[u8], end: usize) {
     say(name, read(image, end));
 }
 
-pub fn say_step(name: &[u8], image: &mut [u8], lives: &mut [u32], end: usize) {
+pub(crate) fn say_step(name: &[u8], image: &mut [u8], lives: &mut [u32], end: usize) {
     say(name, step(image, lives, end));
 }
