@@ -44,6 +44,11 @@ pub record RowLaws (bs : List ℕ) (a : ℕ) (s : Chip) : Type 0 where
 
 -- ## Its proof
 
+-- a row of no byte
+pub row-none : (a : ℕ) (s : Chip) → putRow [] a s ≡ still Nowhere s
+unfolding putRow
+row-none a s = refl
+
 module _ (b : ℕ) (bs : List ℕ) (a : ℕ) (s : Chip) where
   -- a row whose first put holds goes on with the next byte
   pub row-on : putAt a b s .answer ≡ true → putRow (b ∷ bs) a s ≡ putAt a b s then putRow bs (a + 1) (putAt a b s .after)

@@ -9,10 +9,11 @@ use native.Mathlib.Numerals.{one-add}
 use native.Mathlib.Omega.{arith}
 use lib.ListN.{length, length-append}
 use Rattle.cells.specs.declared.row.Way.{Way}
+use Rattle.cells.specs.declared.row.Way.the-variants.{Up, Down}
 use Rattle.cells.specs.declared.row.Found.{Found}
 use Rattle.cells.specs.declared.row.Found.the-variants.{At, Nowhere}
 use Rattle.cells.specs.Chip.{Chip, lifeAt, Paired, Kept}
-use Rattle.cells.specs.Run.{write, Run, run, Seen, seen, view, plus, _then_, _giving_}
+use Rattle.cells.specs.Run.{still, write, Run, run, Seen, seen, view, plus, _then_, _giving_}
 use Rattle.cells.specs.Log.{Within}
 use Rattle.cells.specs.Put.{putAt}
 use Rattle.cells.specs.Row.{next, nth, InRow, tryAt, walk, asks}
@@ -63,6 +64,17 @@ pub asks-length : (n : ℕ) (way : Way) (a b : ℕ) → length (asks n way a b) 
 unfolding asks
 asks-length zero way a b = refl
 asks-length (suc n) way a b = ap suc (asks-length n way (next way a) b)
+
+-- the neighbour is the next cell of the row
+pub next-nth : (way : Way) (a : ℕ) → next way a ≡ nth way a 1
+unfolding next
+next-nth Up a = refl
+next-nth Down a = refl
+
+-- a walk over no cell
+pub walk-none : (way : Way) (a b : ℕ) (s : Chip) → walk 0 way a b s ≡ still Nowhere s
+unfolding walk
+walk-none way a b s = refl
 
 module _ (n : ℕ) (way : Way) (a b : ℕ) (s : Chip) where
   -- a walk whose first put holds ends there

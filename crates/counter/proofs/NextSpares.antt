@@ -13,8 +13,9 @@ use Rattle.cells.specs.declared.row.Found.the-variants.{At, Nowhere}
 use Rattle.cells.specs.Chip.{Chip}
 use Rattle.cells.specs.Run.{Seen, seen, view, _then_}
 use Rattle.cells.specs.Put.{putAt}
-use Rattle.cells.specs.Row.{next, RowFits, tryAt, walk}
-use Rattle.cells.proofs.Walks.{walk-held, walk-miss}
+use Rattle.cells.specs.declared.row.Way.the-variants.{Up, Down}
+use Rattle.cells.specs.Row.{next, RowFits, tryAt}
+use Rattle.cells.proofs.Walks.{next-nth, walk-none, walk-held, walk-miss}
 use Rattle.counter.specs.declared.map.Kind.{Kind}
 use Rattle.counter.specs.declared.map.Kind.the-variants.{High, Low}
 use Rattle.counter.specs.declared.spares.Gap.{Gap}
@@ -76,9 +77,9 @@ spares-fewer Low g some = omega arith
 
 -- its neighbour comes next
 next-on : (kind : Kind) (g : Gap) → 0 < sparesOf kind g → next (wayOf kind) (nextOf kind g) ≡ nextOf kind (narrow kind (nextOf kind g) g)
-unfolding sparesOf wayOf nextOf narrow next
-next-on High g some = omega arith
-next-on Low g some = omega arith
+unfolding sparesOf wayOf nextOf narrow
+next-on High g some = rw (next-nth Up (nextOf High g)) (omega arith)
+next-on Low g some = rw (next-nth Down (nextOf Low g)) (omega arith)
 
 -- an address taken behind another leaves what it leaves alone
 pub narrow-behind : (kind : Kind) (g : Gap) (a c : ℕ) → Free kind (narrow kind a g) c → narrow kind c (narrow kind a g) ≡ narrow kind c g
@@ -95,8 +96,8 @@ spares-fit Low fits = (omega arith, λ some. omega arith)
 
 module _ (k : ℕ) (g : Gap) (b : ℕ) (s : Chip) where
   pub spares-none : sparesOf (kindOf k) g ≡ 0 → view (trySpares k g b s) ≡ seen Nowhere 0 0 s
-  unfolding trySpares walk
-  spares-none none = rw none
+  unfolding trySpares
+  spares-none none = rw (none, walk-none)
 
   module _ (some : 0 < sparesOf (kindOf k) g) where
     abbrev at : ℕ

@@ -13,7 +13,7 @@ use Rattle.cells.specs.declared.row.Found.the-variants.{At, Nowhere}
 use Rattle.cells.specs.Chip.{Chip}
 use Rattle.cells.specs.Run.{Run, _giving_}
 use Rattle.cells.specs.Row.{putRow}
-use Rattle.cells.proofs.Rows.{row-behind, row-alone}
+use Rattle.cells.proofs.Rows.{row-none, row-behind, row-alone}
 use Rattle.counter.specs.declared.places.Places.{Places}
 use Rattle.counter.specs.declared.verdict.Work.{Work}
 use Rattle.counter.specs.Slots.{kindOf}
@@ -38,8 +38,8 @@ map-behind bs cs a s = go (putRow bs a s .answer) refl
     go (At x) h = unfold mapped in rw (row-alone cs x bs a s h, h)
 
 pub pointers-row : (addresses : List ℕ) (k : ℕ) (p : Places) (s : Chip) → putPointers addresses k p s ≡ mapRow (pointerRow addresses k) (p .map + offsetOf k) s
-unfolding putPointers pointerRow putPointer putRow mapped
-pointers-row [] k p s = refl
+unfolding putPointers pointerRow putPointer mapped
+pointers-row [] k p s = rw row-none
 pointers-row (a ∷ rest) k p s =
     let bytes = pointerBytes (kindOf k) a in
     let at = p .map + offsetOf k in
