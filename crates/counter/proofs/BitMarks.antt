@@ -2,15 +2,27 @@
 --   Marks                     the word of some numbers, of which there are so many
 --   marks-none, marks-more    of none, and of one more
 --   marks-same                told of the same numbers in another way
+--   or-left, or-right         a word with more bits is no smaller
+--   xor-none                  words that differ in no bit
 use Prim.Native.Nat.{ℕ, zero, suc, _+_, _/_, _%_, _^_, _≤_, max}
 use mathlib.Core.Path.{_≡_, sym, ap, _∙_}
 use mathlib.Core.Logic.{_⊎_, inl, inr}
 use native.Mathlib.Nat.{max-eq-left, max-eq-right, max-le, pow-suc, div-one, div-self, mul-comm, div-div-eq-div-mul}
 use native.Mathlib.Omega.{arith}
 use lib.Pow.{pow-pos}
-use lib.Bits.{bitOr, or-step, or-shr, or-zero-r}
+use lib.Bits.{bitOr, bitXor, or-step, or-shr, or-zero-r, or-add-and, and-le-l, and-le-r, xor-zero-l}
 use lib.Count.{ones, ones-step}
+use Rattle.code.proofs.XorLaws.{xor-back}
 use Rattle.counter.specs.Slots.{Apart}
+
+pub or-left : (a b : ℕ) → a ≤ bitOr a b
+or-left a b = let sum = or-add-and a b in let h = and-le-r a b in omega arith
+
+pub or-right : (a b : ℕ) → b ≤ bitOr a b
+or-right a b = let sum = or-add-and a b in let h = and-le-l a b in omega arith
+
+pub xor-none : (a b : ℕ) → bitXor a b ≡ 0 → a ≡ b
+xor-none a b e = sym (xor-back a b) ∙ ap (λ (x : ℕ). bitXor x b) e ∙ xor-zero-l b
 
 -- a bit of a word
 abbrev bit : ℕ → ℕ → ℕ

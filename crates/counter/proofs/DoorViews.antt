@@ -26,10 +26,10 @@ use Rattle.counter.specs.Standing.{standingOf}
 use Rattle.counter.specs.Places.{livesGood, fitted}
 use Rattle.counter.specs.Map.{mapIn, pointerOf, sound}
 use Rattle.counter.specs.Verdict.{outcome, outcomeOf, refusalOf, answerOf, ending, _endingIn_}
-use Rattle.counter.specs.Reading.{verdictOf}
+use Rattle.counter.specs.Reading.{examine, verdictOf}
 use Rattle.counter.specs.Store.{store}
 use Rattle.counter.proofs.SoundPointers.{sound-test}
-use Rattle.counter.proofs.Standings.{stands-unfit, stands-unmarked, stands-marked, guard-unfit}
+use Rattle.counter.proofs.Standings.{stands-unfit, stands-unmarked, stands-marked, guard-unfit, guard-marked}
 use Rattle.counter.proofs.Fitted.{ready-fitted}
 use Rattle.counter.proofs.GoodVerdicts.{verdict-good}
 use Rattle.counter.specs.Doors.{lastCount, chipVerdict, unopened, reopening, beginning, openRun, stepping, stepRun}
@@ -54,6 +54,11 @@ module _ (copies : ℕ) (p : Places) (s : Chip) where
     pub chip-verdict : chipVerdict copies p s ≡ verdictOf copies p (s .cells)
     unfolding chipVerdict
     chip-verdict = rw lives
+
+    -- behind a mark, as what they are examined to be
+    pub chip-examined : standingOf copies p (s .cells) ≡ Marked → chipVerdict copies p s ≡ examine copies p (s .cells)
+    unfolding verdictOf
+    chip-examined e = chip-verdict ∙ guard-marked copies p (s .cells) _ e
 
     -- and is opened as they stand
     pub chip-fitted : standingOf copies p (s .cells) ≡ Unmarked → fitted copies p s ≡ true

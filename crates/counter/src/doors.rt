@@ -17,8 +17,9 @@ ghost use Rattle.counter.specs.Doors.{beginning, reopening, stepping, pa
 use super::map::Map;
 use super::opening::open_first;
 use super::places::Places;
+use super::reading::examined;
 use super::reading::verdict_of;
-use super::soundness::is_sound;
+use super::soundness::plainly_sound;
 use super::standing::Standing;
 use super::standing::standing_of;
 use super::store::Stored;
@@ -76,12 +77,12 @@ fn begin(image: &mut [u8], lives: &mut [u32], p: Places) -> Answer
     finished(Verdict::Good(0, 0), stored)
 }
 
-// Reads the count, and stores it anew.
+// Reads the count of a marked image with good settings, and stores it anew.
 fn reopen(image: &mut [u8], lives: &mut [u32], p: Places) -> Answer
-    requires { ⌜ length (now lives) ≡ length (now image) ⌝ }
+    requires { ⌜ (length (now lives) ≡ length (now image)) × (standingOf two p (now image) ≡ Standing.Marked) ⌝ }
     ensures { λ r. ⌜ outcome r (chip (now (image .exit)) (now (lives .exit))) ≡ outcomeOf (reopening two p (chip (now (image .entry)) (now (lives .entry)))) ⌝ }
 {
-    let found = verdict_of(image, p);
+    let found = examined(image, p);
     let exact = found.exact;
     let verdict = found.verdict;
     match verdict {
@@ -188,7 +189,7 @@ fn part_verdict(image: &[u8], p: Places, copy: usize) -> Verdict
     requires { ⌜ standingOf two p (now image) ≡ Standing.Marked ⌝ }
     ensures { λ r. ⌜ r ≡ partVerdict two p (now (image .entry)) copy ⌝ }
 {
-    if !is_sound(Map::at(p.map).cells(image), p) {
+    if !plainly_sound(Map::at(p.map).cells(image), p) {
         return Verdict::Refused(Refusal::UnsoundMap);
     }
     if copy < 1 {

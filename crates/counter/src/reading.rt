@@ -173,27 +173,25 @@ fn plain_nibbles(image: &[u8], map: &[u8]) -> Plain
 {
     let table = laid();
     let mut nibbles = [0u8; 8];
+    let mut apart = 0u8;
+    let mut seen = 0u8;
     let mut n = 0;
     while n < 8 {
         let byte = byte_of(image, map, n);
-        if byte_of(image, map, 8 + n) != byte {
-            return Plain {
-                clean: false,
-                nibbles,
-            };
-        }
         let entry = table[wide(byte)];
-        if 15 < entry {
-            return Plain {
-                clean: false,
-                nibbles,
-            };
-        }
+        apart = apart | (byte ^ byte_of(image, map, 8 + n));
+        seen = seen | entry;
         nibbles[n] = entry;
         n += 1;
     }
+    if apart != 0 {
+        return Plain {
+            clean: false,
+            nibbles,
+        };
+    }
     Plain {
-        clean: true,
+        clean: seen < 16,
         nibbles,
     }
 }
@@ -227,7 +225,7 @@ fn found_in(image: &[u8], map: &[u8]) -> Finding
 }
 
 // What a marked image with good settings reads as.
-fn examined(image: &[u8], p: Places) -> Finding
+pub(crate) fn examined(image: &[u8], p: Places) -> Finding
     requires { ⌜ (lengthGood two (length (now image)) ≡ true) × (placesGood two (length (now image)) p ≡ true) ⌝ }
     ensures { λ r. ⌜ (r .verdict ≡ examine two p (now (image .entry))) × (r .exact ≡ true → (c : ℕ) (lag : ℤ) → r .verdict ≡ Good c lag → Holds two p c (now (image .entry))) ⌝ }
 {

@@ -41,7 +41,9 @@ enum-told-2 : tie.Need-enum-told-2
 enum-told-2 c = search needs
 
 reopen-requires : tie.Need-reopen-requires
-reopen-requires c κs = search needs
+reopen-requires c κs =
+    let stands = c .before .before .before .before in
+    (stands .before .before .if1 .left, sym (stands .standing-of .ensures) ∙ c .before .before .enum-told2 .given .1)
 
 same-length : tie.Need-same-length
 same-length c = search needs

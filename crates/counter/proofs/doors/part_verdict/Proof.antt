@@ -22,17 +22,17 @@ cells-requires c κs = let placed = good-placed two _ _ (stands-marked two _ _ (
 map : (c : tie.After-cells) → let s = c .before .before .before .args in c .cells .result .now ≡ mapIn two (s .p) (s .image .now)
 map c = rw (← c .before .at .ensures) (c .cells .ensures)
 
-is-sound-requires : tie.Need-is-sound-requires
-is-sound-requires c κs =
+plainly-sound-requires : tie.Need-plainly-sound-requires
+plainly-sound-requires c κs =
     let facts = stands-marked two _ _ (c .before .before .before .pre) in
     let placed = good-placed two _ _ (facts .1) in
     let long = length-good two _ (facts .0) in
     (rw (map c) (map-whole _ placed), omega arith)
 
 -- what was tested of the map
-tested : (c : tie.After-is-sound) → let s = c .before .before .before .before .args in
-    sound two (s .p) (pointerOf (mapIn two (s .p) (s .image .now))) ≡ c .is-sound .result
-tested c = rw (← map (c .before)) (sym (c .is-sound .ensures))
+tested : (c : tie.After-plainly-sound) → let s = c .before .before .before .before .args in
+    sound two (s .p) (pointerOf (mapIn two (s .p) (s .image .now))) ≡ c .plainly-sound .result
+tested c = rw (← map (c .before)) (sym (c .plainly-sound .ensures))
 
 returns : tie.Need-returns
 unfolding partVerdict
@@ -66,4 +66,4 @@ returns-4 c =
 pub part-verdict-spec : {M : Type 1} → statement M
 part-verdict-spec =
     tie.close
-    (tie.spec at-requires cells-requires is-sound-requires returns returns-2 returns-3 returns-4)
+    (tie.spec at-requires cells-requires plainly-sound-requires returns returns-2 returns-3 returns-4)

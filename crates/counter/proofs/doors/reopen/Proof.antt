@@ -10,13 +10,14 @@ use Rattle.counter.specs.Slots.{two}
 use Rattle.counter.specs.Verdict.{outcome, outcomeOf, _endingIn_}
 use Rattle.counter.specs.Store.{store}
 use Rattle.counter.specs.Doors.{chipVerdict}
-use Rattle.counter.proofs.DoorViews.{outcome-ending, outcome-refused, chip-verdict, good-settled, reopening-good, reopening-refused}
+use Rattle.counter.proofs.DoorViews.{outcome-ending, outcome-refused, chip-examined, good-settled, reopening-good, reopening-refused}
+use Rattle.counter.proofs.Standings.{stands-marked}
 use borrow.Author.Needs.{needs}
 use Rattle.counter.proofs.doors.reopen.Statement.{statement}
 use Rattle.counter.proofs.doors.reopen.Tie as tie
 
-verdict-of-requires : tie.Need-verdict-of-requires
-verdict-of-requires c κs = search needs
+examined-requires : tie.Need-examined-requires
+examined-requires c κs = let facts = stands-marked two _ _ (c .before .before .before .pre .1) in (facts .0, facts .1)
 
 enum-known-verdict : tie.Need-enum-known-verdict
 enum-known-verdict c = search needs
@@ -26,13 +27,13 @@ good : (c : tie.After-known-told) → let s = c .before .before .before .before 
     chipVerdict two (s .args .p) (chip (s .args .image .now) (s .args .lives .now)) ≡ Good (c .before .verdict .given .0 .0) (c .before .verdict .given .0 .1 .0)
 good c =
     let s = c .before .before .before .before .before .before .before in
-    chip-verdict two _ _ (s .pre) ∙ sym (c .before .before .before .verdict-of .ensures .0) ∙ c .before .verdict .given .1
+    chip-examined two _ _ (s .pre .0) (s .pre .1) ∙ sym (c .before .before .before .examined .ensures .0) ∙ c .before .verdict .given .1
 
 settle-requires : tie.Need-settle-requires
 settle-requires c κs =
     let told = c .before .before in
     let fit = good-settled two _ _ (good told) in
-    (fit .0, fit .1, λ e. told .before .before .before .verdict-of .ensures .1 e _ _ (told .before .verdict .given .1))
+    (fit .0, fit .1, λ e. told .before .before .before .examined .ensures .1 e _ _ (told .before .verdict .given .1))
 
 finished-requires : tie.Need-finished-requires
 finished-requires c κs = search needs
@@ -68,7 +69,7 @@ same-length-3 c = search needs
 returns-2 : tie.Need-returns-2
 returns-2 c =
     let s = c .before .before .before .before .before .before .before .before in
-    let refused = chip-verdict two _ _ (s .pre) ∙ sym (c .before .before .before .before .verdict-of .ensures .0) ∙ c .before .before .verdict2 .given .1 in
+    let refused = chip-examined two _ _ (s .pre .0) (s .pre .1) ∙ sym (c .before .before .before .before .examined .ensures .0) ∙ c .before .before .verdict2 .given .1 in
     ap (λ (a : Answer). outcome a (chip (s .args .image .now) (s .args .lives .now))) (c .refusal-of .ensures)
     ∙ outcome-refused (reopening-refused two _ _ _ refused)
 
@@ -76,7 +77,7 @@ pub reopen-spec : {M : Type 1} → statement M
 reopen-spec =
     tie.close
     (tie.spec
-    verdict-of-requires
+    examined-requires
     enum-known-verdict
     settle-requires
     finished-requires

@@ -10,12 +10,11 @@ use Rattle.counter.specs.Map.{pointerOf}
 use Rattle.counter.specs.Spares.{gapTo, mayTry}
 use Rattle.counter.proofs.RangeTests.{every-more, every-not}
 use Rattle.counter.proofs.Gaps.{gap-more}
-use Rattle.counter.proofs.SoundByTries.{border-tries}
 use Rattle.counter.proofs.soundness.in_order.Statement.{statement}
 use Rattle.counter.proofs.soundness.in_order.Tie as tie
 
 abbrev Inv-loop : tie.InvT-loop
-Inv-loop map p border gap₀ slot₀ gap slot =
+Inv-loop map p gap₀ slot₀ gap slot =
     record {
       most : slot ≤ 16;
       left : gap ≡ gapTo slot p (pointerOf map);
@@ -23,16 +22,7 @@ Inv-loop map p border gap₀ slot₀ gap slot =
     }
 
 abbrev μ-loop : tie.MeasureT-loop
-μ-loop map p border gap₀ slot₀ gap slot = 16 - slot
-
-low-border-requires : tie.Need-low-border-requires Inv-loop μ-loop
-low-border-requires c κs = search needs
-
-highs-below-requires : tie.Need-highs-below-requires Inv-loop μ-loop
-highs-below-requires c κs = search needs
-
-returns : tie.Need-returns Inv-loop μ-loop
-returns c = sym (border-tries _ _ _ (c .before .before .low-border .ensures) (c .before .highs-below .ensures (c .if1 .taken)))
+μ-loop map p gap₀ slot₀ gap slot = 16 - slot
 
 whole-area-requires : tie.Need-whole-area-requires Inv-loop μ-loop
 whole-area-requires c κs = search needs
@@ -50,14 +40,14 @@ may-try-requires c κs = search needs
 -- what was tested, by the invariant
 tested : (c : tie.After-may-try Inv-loop μ-loop)
     → let loop = c .before .before .before .loop in
-    let s = c .before .before .before .before .before .before .before .before .before .args in
+    let s = c .before .before .before .before .before .before .args in
     mayTry (s .p) (kindOf (loop .slot)) (gapTo (loop .slot) (s .p) (pointerOf (s .map .now))) (pointerOf (s .map .now) (loop .slot)) ≡ c .may-try .result
 tested c = rw (← c .before .before .before .loop .inv .left, ← c .before .pointer-of .ensures .0) (sym (c .may-try .ensures))
 
-returns-2 : tie.Need-returns-2 Inv-loop μ-loop
-returns-2 c =
+returns : tie.Need-returns Inv-loop μ-loop
+returns c =
     let loop = c .before .before .before .before .loop in
-    sym (every-not _ _ (loop .slot) (c .before .before .before .loop-test .taken) (tested (c .before) ∙ not-true _ (c .if2 .taken)))
+    sym (every-not _ _ (loop .slot) (c .before .before .before .loop-test .taken) (tested (c .before) ∙ not-true _ (c .if1 .taken)))
 
 narrowed-requires : tie.Need-narrowed-requires Inv-loop μ-loop
 narrowed-requires c κs = c .before .before .pointer-of .ensures .1
@@ -74,11 +64,11 @@ loop-again c =
     record {
       most = omega arith;
       left = c .narrowed .ensures ∙ rw (c .before .before .before .pointer-of .ensures .0, loop .inv .left) (gap-more _ _ _);
-      all = every-more (loop .slot) _ (loop .inv .all) (tested (c .before .before) ∙ not-false _ (c .before .if2 .left));
+      all = every-more (loop .slot) _ (loop .inv .all) (tested (c .before .before) ∙ not-false _ (c .before .if1 .left));
     }
 
-returns-3 : tie.Need-returns-3 Inv-loop μ-loop
-returns-3 c =
+returns-2 : tie.Need-returns-2 Inv-loop μ-loop
+returns-2 c =
     let loop = c .before .loop in
     let end : loop .slot ≡ 16 = omega arith in
     sym (rw end at (loop .inv .all))
@@ -89,16 +79,13 @@ in-order-spec =
     (tie.spec
     Inv-loop
     μ-loop
-    low-border-requires
-    highs-below-requires
-    returns
     whole-area-requires
     loop-holds
     pointer-of-requires
     may-try-requires
-    returns-2
+    returns
     narrowed-requires
     add-slot
     loop-less
     loop-again
-    returns-3)
+    returns-2)
