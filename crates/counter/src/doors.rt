@@ -189,7 +189,7 @@ fn part_verdict(image: &[u8], p: Places, copy: usize) -> Verdict
     requires { ⌜ standingOf two p (now image) ≡ Standing.Marked ⌝ }
     ensures { λ r. ⌜ r ≡ partVerdict two p (now (image .entry)) copy ⌝ }
 {
-    if !plainly_sound(Map::at(p.map).cells(image), p) {
+    if !plainly_sound(Map::at(p.map).cells(image), p, false) {
         return Verdict::Refused(Refusal::UnsoundMap);
     }
     if copy < 1 {

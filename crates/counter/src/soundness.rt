@@ -173,38 +173,32 @@ fn all_differ(map: &[u8]) -> bool
     true
 }
 
-// Whether a quick look shows that the pointers are sound. It shows so of any map whose pointers of a kind lie within 64
-// cells of each other.
-fn seems_sound(map: &[u8], p: Places) -> bool
-    requires { ⌜ length (now map) ≡ 24 ⌝ }
-    ensures { λ r. ⌜ (r ≡ true → sound two p (pointerOf (now (map .entry))) ≡ true) ⌝ }
-{
-    let border = low_border(map, p);
-    if highs_below(map, p, border) {
-        return spread(map);
-    }
-    false
-}
-
-// Whether the pointers are sound, by each clause. A function of its own, so that the quick look stands alone in what
-// calls it.
-pub(crate) fn plainly_sound(map: &[u8], p: Places) -> bool
-    requires { ⌜ (length (now map) ≡ 24) × (p .end < 4096) ⌝ }
+// Whether the pointers are sound, by looking at each clause that is not known to hold. It has two callers, so that the
+// compiler keeps it apart from what is usual.
+pub(crate) fn plainly_sound(map: &[u8], p: Places, ordered: bool) -> bool
+    requires { ⌜ (length (now map) ≡ 24) × (p .end < 4096) × (ordered ≡ true → every 16 (λ k. mayTry p (kindOf k) (gapTo k p (pointerOf (now map))) (pointerOf (now map) k)) ≡ true) ⌝ }
     ensures { λ r. ⌜ r ≡ sound two p (pointerOf (now (map .entry))) ⌝ }
 {
-    if in_order(map, p) {
-        return all_differ(map);
+    if !ordered {
+        if !in_order(map, p) {
+            return false;
+        }
     }
-    false
+    all_differ(map)
 }
 
-// Whether the pointers are sound.
+// Whether the pointers are sound. As a rule a border between Low and High pointers shows their order, and a word of bits
+// for each kind that they differ.
 pub(crate) fn is_sound(map: &[u8], p: Places) -> bool
     requires { ⌜ (length (now map) ≡ 24) × (p .end < 4096) ⌝ }
     ensures { λ r. ⌜ r ≡ sound two p (pointerOf (now (map .entry))) ⌝ }
 {
-    if seems_sound(map, p) {
-        return true;
+    let border = low_border(map, p);
+    let ordered = highs_below(map, p, border);
+    if ordered {
+        if spread(map) {
+            return true;
+        }
     }
-    plainly_sound(map, p)
+    plainly_sound(map, p, ordered)
 }

@@ -1,20 +1,43 @@
 -- `soundness::is_sound` meets its contract.
 use mathlib.Core.Path.{sym}
 use borrow.Author.Needs.{needs}
+use Rattle.counter.proofs.SoundByTries.{border-tries, spread-sound}
 use Rattle.counter.proofs.soundness.is_sound.Statement.{statement}
 use Rattle.counter.proofs.soundness.is_sound.Tie as tie
 
-seems-sound-requires : tie.Need-seems-sound-requires
-seems-sound-requires c κs = search needs
+low-border-requires : tie.Need-low-border-requires
+low-border-requires c κs = search needs
+
+highs-below-requires : tie.Need-highs-below-requires
+highs-below-requires c κs = search needs
+
+spread-requires : tie.Need-spread-requires
+spread-requires c κs = search needs
 
 returns : tie.Need-returns
-returns c = sym (c .before .seems-sound .ensures (c .if1 .taken))
+returns c =
+    let seen = c .before .before in
+    let looked = seen .before in
+    let tries = border-tries _ _ _ (looked .before .low-border .ensures) (looked .highs-below .ensures (seen .if1 .taken)) in
+    let apart = c .before .spread .ensures (c .if2 .taken) in
+    sym (spread-sound _ _ tries (apart .0) (apart .1))
 
 plainly-sound-requires : tie.Need-plainly-sound-requires
-plainly-sound-requires c κs = search needs
+plainly-sound-requires c κs =
+    let looked = c .before in
+    let pre = looked .before .before .before .pre in
+    (pre .0, pre .1, λ e. border-tries _ _ _ (looked .before .low-border .ensures) (looked .highs-below .ensures e))
 
 returns-2 : tie.Need-returns-2
 returns-2 c = search needs
 
 pub is-sound-spec : {M : Type 1} → statement M
-is-sound-spec = tie.close (tie.spec seems-sound-requires returns plainly-sound-requires returns-2)
+is-sound-spec =
+    tie.close
+    (tie.spec
+    low-border-requires
+    highs-below-requires
+    spread-requires
+    returns
+    plainly-sound-requires
+    returns-2)

@@ -1,28 +1,40 @@
 -- `soundness::plainly_sound` meets its contract.
 use Prim.Native.Nat.{ℕ}
 use mathlib.Core.Path.{_≡_, sym, _∙_}
+use mathlib.Core.Bool.{true}
+use mathlib.Core.Logic.{⊎-elim}
 use borrow.Author.Needs.{needs}
+use borrow.Author.Tests.{not-true, not-false}
 use native.Mathlib.Omega.{arith}
-use Rattle.counter.specs.Slots.{two}
+use Rattle.counter.specs.Slots.{two, every}
+use Rattle.counter.specs.Map.{pointerOf}
 use Rattle.counter.proofs.RangeTests.{never}
-use Rattle.counter.proofs.SoundByTries.{sound-tries, sound-differ}
+use Rattle.counter.proofs.SoundByTries.{follows, sound-tries, sound-differ}
 use Rattle.counter.proofs.soundness.plainly_sound.Statement.{statement}
 use Rattle.counter.proofs.soundness.plainly_sound.Tie as tie
 
 in-order-requires : tie.Need-in-order-requires
 in-order-requires c κs = search needs
 
+returns : tie.Need-returns
+returns c =
+    sym
+    (never _
+    (λ s.
+    let z : _≡_ {A = ℕ} 0 1 = cc (sound-tries two _ _ s, c .before .in-order .ensures, not-true (c .before .in-order .result) (c .if2 .taken)) in
+    omega arith))
+
 all-differ-requires : tie.Need-all-differ-requires
 all-differ-requires c κs = search needs
 
-returns : tie.Need-returns
-returns c = c .all-differ .ensures ∙ sound-differ two _ _ (sym (c .before .before .in-order .ensures) ∙ c .before .if1 .taken)
+-- each could be tried: it was seen, or known
+tries : (c : tie.Joined1) → let s = c .before .before in every 16 (follows two (s .args .p) (pointerOf (s .args .map .now))) ≡ true
+tries c =
+    ⊎-elim (λ seen. sym (seen .1 .ensures) ∙ not-false _ (seen .2 .left)) (λ known. c .before .before .pre .2 (not-false _ (known .left)))
+    (c .if1 .came)
 
 returns-2 : tie.Need-returns-2
-returns-2 c =
-    sym
-    (never _
-    (λ s. let z : _≡_ {A = ℕ} 0 1 = cc (sound-tries two _ _ s, c .before .in-order .ensures, c .if1 .left) in omega arith))
+returns-2 c = c .all-differ .ensures ∙ sound-differ two _ _ (tries (c .before))
 
 pub plainly-sound-spec : {M : Type 1} → statement M
-plainly-sound-spec = tie.close (tie.spec in-order-requires all-differ-requires returns returns-2)
+plainly-sound-spec = tie.close (tie.spec in-order-requires returns all-differ-requires returns-2)
