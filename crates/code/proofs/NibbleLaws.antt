@@ -10,16 +10,18 @@
 --   word-of-nibbles     the word of a word's nibbles is that word
 --   nibble-zero         the nibbles of 0
 --   word-nibble         the nibbles of a word that was made of nibbles
+--   laid-over           a nibble laid over n others: Laid
 use mathlib.Core.Path.{_≡_, refl, sym, ap, _∙_}
 use mathlib.Core.List.{List, [], _∷_}
 use Prim.Native.Nat.{ℕ, zero, suc, _+_, _-_, _*_, _/_, _%_, _^_, _≤_, _<_}
-use native.Mathlib.Nat.{not-suc-le-zero, pow-suc, mul-suc, one-le-pow, pow-le-pow-right, lt-of-lt-of-le, mod-lt, mod-eq-of-lt, mod-one, div-one, div-eq-of-lt, div-div-eq-div-mul, zero-div, mul-comm}
+use native.Mathlib.Nat.{not-suc-le-zero, pow-suc, mul-suc, one-le-pow, pow-le-pow-right, lt-of-lt-of-le, mod-lt, mod-eq-of-lt, mod-one, div-one, div-eq-of-lt, div-div-eq-div-mul, zero-div, mul-comm, mul-assoc, mul-le-mul-right, mul-add-div-right, mul-add-mod-self-right}
 use native.Mathlib.Numerals.{sub-one}
 use native.Mathlib.Omega.{arith}
-use lib.Arith.{mod-mul}
+use lib.Arith.{mod-mul, digits-div}
+use lib.Bits.{bitOr, or-shifted-r}
 use lib.Dec.{lit<}
 use lib.ListN.{length, getD, drop, length-drop, drop-of-length-le}
-use lib.Pow.{pow-add}
+use lib.Pow.{pow-add, shl-exact}
 use lib.Seq.{drop-cons}
 use Rattle.code.specs.Tabulate.{tabulate}
 use Rattle.code.specs.Nibbles.{nibbleOf, wordOf}
@@ -103,3 +105,36 @@ word-nibble (n ∷ ns) (suc k) l =
     ∙ ap (λ (x : ℕ). x % 16) (sym (div-div-eq-div-mul (n % 16 + 16 * wordOf ns) 16 (16 ^ k)))
     ∙ ap (λ (x : ℕ). x / 16 ^ k % 16) above
     ∙ word-nibble ns k (omega arith)
+
+-- a nibble d laid over the n nibbles of a word w gives v
+pub record Laid (w d n v : ℕ) : Type 0 where
+  pub small : v < 16 ^ (n + 1)
+  pub top : nibbleOf v n ≡ d
+  pub rest : (k : ℕ) → k < n → nibbleOf v k ≡ nibbleOf w k
+
+pub laid-over : (w d n : ℕ) → w < 16 ^ n → d < 16 → n < 8 → Laid w d n (bitOr w ((d * 2 ^ (4 * n)) % 2 ^ 32))
+unfolding nibbleOf
+laid-over w d n fits nibble few =
+    rw sum
+    (record {
+      small = let most : d * 16 ^ n ≤ 15 * 16 ^ n = mul-le-mul-right (16 ^ n) (omega arith) in let e : 16 ^ (n + 1) ≡ 16 ^ n * 16 = pow-add 16 n 1 in omega arith;
+      top = ap (λ (x : ℕ). x % 16) (digits-div d fits) ∙ mod-eq-of-lt nibble;
+      rest = under;
+    })
+  where
+    sum : bitOr w ((d * 2 ^ (4 * n)) % 2 ^ 32) ≡ d * 16 ^ n + w
+    sum =
+        ap (bitOr w) (shl-exact 4 (4 * n) 32 nibble (omega arith))
+        ∙ or-shifted-r d (4 * n) w (rw (sixteens n) at fits)
+        ∙ ap (λ (x : ℕ). d * x + w) (sym (sixteens n))
+
+    under : (k : ℕ) → k < n → (d * 16 ^ n + w) / 16 ^ k % 16 ≡ w / 16 ^ k % 16
+    under k l =
+        let j = n - k - 1 in
+        let count : n ≡ suc j + k = omega arith in
+        let power : 16 ^ n ≡ 16 ^ j * 16 * 16 ^ k = ap (λ (x : ℕ). 16 ^ x) count ∙ pow-add 16 (suc j) k ∙ ap (λ (x : ℕ). x * 16 ^ k) (pow-suc 16 j) in
+        let product : d * 16 ^ n ≡ d * 16 ^ j * 16 * 16 ^ k =
+        ap (λ (x : ℕ). d * x) power ∙ sym (mul-assoc d (16 ^ j * 16) (16 ^ k)) ∙ ap (λ (x : ℕ). x * 16 ^ k) (sym (mul-assoc d (16 ^ j) 16)) in
+        ap (λ (x : ℕ). (x + w) / 16 ^ k % 16) product
+        ∙ ap (λ (x : ℕ). x % 16) (mul-add-div-right (sixteens-positive k) (d * 16 ^ j * 16) w)
+        ∙ mul-add-mod-self-right (d * 16 ^ j) 16 (w / 16 ^ k)

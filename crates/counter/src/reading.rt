@@ -4,8 +4,9 @@ ghost use mathlib.Core.Path.{_≡_};
 ghost use mathlib.Core.Bool.{true};
 ghost use Prim.Native.Nat.{ℕ, _+_, _<_};
 ghost use lib.IntN.{ℤ};
-ghost use lib.ListN.{length, getD};
+ghost use lib.ListN.{length};
 ghost use Rattle.code.specs.Codes.{codeOf};
+ghost use Rattle.code.specs.Nibbles.{nibbleOf};
 ghost use Rattle.code.specs.Readings.{isLost, nibbleRead};
 ghost use Rattle.code.specs.Entries.{readingAt};
 ghost use Rattle.cells.specs.Chip.{pick};
@@ -160,19 +161,20 @@ fn weighed(data: &[u8; 16]) -> Verdict
     decided(count_in(&entries, 0), count_in(&entries, 1))
 }
 
-// The nibbles of bytes that are codes, the same in both copies; and whether they are.
+// The Gray word of bytes that are codes, the same in both copies; and whether they are.
 pub struct Plain {
     pub clean: bool,
-    pub nibbles: [u8; 8],
+    pub word: u32,
 }
 
-// The nibbles of the bytes, if they are codes and the same in both copies.
-fn plain_nibbles(image: &[u8], map: &[u8]) -> Plain
+// The Gray word of the bytes, if they are codes and the same in both copies. No turn asks whether they are: what is amiss is
+// gathered, and seen at the end.
+fn plain_word(image: &[u8], map: &[u8]) -> Plain
     requires { ⌜ Reaches (now image) (now map) ⌝ }
-    ensures { λ r. ⌜ (length (r .nibbles) ≡ 8) × (r .clean ≡ true → (n : ℕ) → n < 8 → (dataAt (now (image .entry)) (now (map .entry)) n ≡ codeOf (getD (r .nibbles) n 0)) × (getD (r .nibbles) n 0 < 16) × (dataAt (now (image .entry)) (now (map .entry)) (8 + n) ≡ dataAt (now (image .entry)) (now (map .entry)) n)) ⌝ }
+    ensures { λ r. ⌜ (r .clean ≡ true → (n : ℕ) → n < 8 → (dataAt (now (image .entry)) (now (map .entry)) n ≡ codeOf (nibbleOf (r .word) n)) × (dataAt (now (image .entry)) (now (map .entry)) (8 + n) ≡ dataAt (now (image .entry)) (now (map .entry)) n)) ⌝ }
 {
     let table = laid();
-    let mut nibbles = [0u8; 8];
+    let mut word = 0u32;
     let mut apart = 0u8;
     let mut seen = 0u8;
     let mut n = 0;
@@ -181,18 +183,15 @@ fn plain_nibbles(image: &[u8], map: &[u8]) -> Plain
         let entry = table[wide(byte)];
         apart = apart | (byte ^ byte_of(image, map, 8 + n));
         seen = seen | entry;
-        nibbles[n] = entry;
+        word = word | ((entry as u32) << (4 * n));
         n += 1;
     }
     if apart != 0 {
-        return Plain {
-            clean: false,
-            nibbles,
-        };
+        return Plain { clean: false, word };
     }
     Plain {
         clean: seen < 16,
-        nibbles,
+        word,
     }
 }
 
@@ -207,10 +206,9 @@ fn found_in(image: &[u8], map: &[u8]) -> Finding
     requires { ⌜ Reaches (now image) (now map) ⌝ }
     ensures { λ r. ⌜ (r .verdict ≡ weigh two (dataAt (now (image .entry)) (now (map .entry)))) × (r .exact ≡ true → (c : ℕ) (lag : ℤ) → r .verdict ≡ Good c lag → (k : ℕ) → k < 16 → dataAt (now (image .entry)) (now (map .entry)) k ≡ slotCode c k) ⌝ }
 {
-    let plain = plain_nibbles(image, map);
+    let plain = plain_word(image, map);
     if plain.clean {
-        let nibbles = plain.nibbles;
-        let count = count_of(word_of(nibbles));
+        let count = count_of(plain.word);
         return Finding {
             verdict: Verdict::Good(count, 0),
             exact: true,

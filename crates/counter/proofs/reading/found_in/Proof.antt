@@ -1,41 +1,36 @@
 -- `reading::found_in` meets its contract: bytes that are the same codes in both copies hold their count exactly.
-use Prim.Native.Nat.{ℕ, _<_}
+use Prim.Native.Nat.{ℕ, _^_, _<_}
 use mathlib.Core.Path.{_≡_, sym, ap, _∙_}
 use native.Mathlib.Omega.{arith}
-use Rattle.code.specs.Gray.{countOf}
-use Rattle.code.specs.Nibbles.{wordOf}
 use Rattle.code.proofs.GrayLaws.{count-small}
 use Rattle.counter.specs.Slots.{two}
 use Rattle.counter.specs.Reading.{dataAt}
 use Rattle.counter.specs.Store.{slotCode}
 use Rattle.counter.proofs.ReadBack.{weigh-exact}
 use Rattle.counter.proofs.Weighed.{weigh-same}
-use Rattle.counter.proofs.PlainBytes.{word-fits, plain-held}
+use Rattle.counter.proofs.PlainBytes.{plain-held}
 use Rattle.counter.proofs.RangeTests.{no-claim}
 use borrow.Author.Needs.{needs}
 use Rattle.counter.proofs.reading.found_in.Statement.{statement}
 use Rattle.counter.proofs.reading.found_in.Tie as tie
 
-plain-nibbles-requires : tie.Need-plain-nibbles-requires
-plain-nibbles-requires c κs = search needs
-
-word-of-requires : tie.Need-word-of-requires
-word-of-requires c κs = search needs
+plain-word-requires : tie.Need-plain-word-requires
+plain-word-requires c κs = search needs
 
 count-of-requires : tie.Need-count-of-requires
 count-of-requires c κs = search needs
 
 returns : tie.Need-returns
 returns c =
-    let plain = c .before .before .before .before .plain-nibbles in
-    let ns = plain .result .nibbles in
-    let s = c .before .before .before .before .before .before .before .args in
+    let plain = c .before .before .plain-word in
+    let word = plain .result .word in
+    let s = c .before .before .before .before .before .args in
     let byte : ℕ → ℕ = dataAt (s .image .now) (s .map .now) in
-    let facts = plain .ensures .1 (c .before .before .before .if1 .taken) in
-    let size = plain .ensures .0 in
-    let count : c .count-of .result ≡ countOf (wordOf ns) = c .count-of .ensures ∙ ap countOf (c .before .word-of .ensures) in
-    let held : (k : ℕ) → k < 16 → byte k ≡ slotCode (c .count-of .result) k = λ k l. plain-held byte ns size facts k l ∙ ap (λ (x : ℕ). slotCode x k) (sym count) in
-    let small : c .count-of .result < 4294967296 = rw count (count-small _ (word-fits byte ns size facts)) in
+    let facts = plain .ensures (c .before .if1 .taken) in
+    let fits : word < 2 ^ 32 = search needs in
+    let count = c .count-of .ensures in
+    let held : (k : ℕ) → k < 16 → byte k ≡ slotCode (c .count-of .result) k = λ k l. plain-held byte word fits facts k l ∙ ap (λ (x : ℕ). slotCode x k) (sym count) in
+    let small : c .count-of .result < 4294967296 = rw count (count-small word fits) in
     (sym (weigh-exact two {byte = byte} small held (omega arith)), λ e d lag q k l. held k l ∙ ap (λ (x : ℕ). slotCode x k) (cc))
 
 data-of-requires : tie.Need-data-of-requires
@@ -51,8 +46,7 @@ pub found-in-spec : {M : Type 1} → statement M
 found-in-spec =
     tie.close
     (tie.spec
-    plain-nibbles-requires
-    word-of-requires
+    plain-word-requires
     count-of-requires
     returns
     data-of-requires
