@@ -1,0 +1,171 @@
+/* The lines that crates/cases prints, worked out by the second maker: chips of document 01's bench list, and chips that are easy
+   to get wrong. The map is at 1 and the area starts at 25 where a case does not say otherwise. */
+
+#include "second.h"
+
+#include <inttypes.h>
+#include <stdio.h>
+#include <string.h>
+
+enum { map = 1, start = 25, none = 0 };
+
+static uint8_t image[512];
+static uint32_t lives[512];
+static size_t n, end;
+
+static void print_answer(const char *name, second_answer answer)
+{
+    printf("%s: code=%" PRIu32 " count=%" PRIu32 " lag=%" PRId64 " place=%" PRIu64 " writes=%" PRIu64 " tried=%" PRIu64, name,
+           answer.code, answer.count, answer.lag, answer.place, answer.writes, answer.tried);
+}
+
+static void print_cell(size_t at)
+{
+    if (at != none)
+        printf(" cell %zu=%u", at, image[at]);
+}
+
+static void say(const char *name, second_answer answer, size_t first, size_t second)
+{
+    print_answer(name, answer);
+    print_cell(first);
+    print_cell(second);
+    printf("\n");
+}
+
+static void blank(size_t cells, size_t last)
+{
+    n = cells;
+    end = last;
+    memset(image, 0xFF, sizeof image);
+    for (size_t i = 0; i < sizeof lives / sizeof *lives; i++)
+        lives[i] = 1000;
+}
+
+static second_answer open_it(void)
+{
+    return second_open(image, n, lives, n, map, start, end);
+}
+
+static second_answer read_it(void)
+{
+    return second_read(image, n, map, start, end);
+}
+
+static second_answer step_it(void)
+{
+    return second_step(image, n, lives, n, map, start, end);
+}
+
+static void opened(size_t cells, size_t last)
+{
+    blank(cells, last);
+    open_it();
+}
+
+static void opened_a(void)
+{
+    opened(129, 128);
+}
+
+static void say_blank(const char *name, size_t cells, size_t m, size_t s, size_t e)
+{
+    blank(cells, e);
+    say(name, second_open(image, n, lives, n, m, s, e), none, none);
+}
+
+/* Setting A at 4294967294, whose word is 80000001 hex. */
+static void near_the_end(void)
+{
+    opened_a();
+    image[128] = image[125] = 0x07;
+    image[29] = image[34] = 0x34;
+}
+
+static void bench_list(void)
+{
+    blank(129, 128);
+    say("14 open", open_it(), none, none);
+    for (int i = 0; i < 16; i++) {
+        second_answer answer = step_it();
+        say("14 step", answer, 127, 124);
+    }
+    opened_a();
+    lives[128] = 0;
+    second_answer moved = step_it();
+    say("15 cell 128 worn, step", moved, 3, none);
+    say_blank("16 N 40, open", 40, 1, 25, 39);
+    say_blank("16 N 41, open", 41, 1, 25, 40);
+    say_blank("16 area of 15, open", 41, 1, 25, 39);
+    say_blank("16 S 246, open", 262, 1, 246, 261);
+    say_blank("16 S 247, open", 263, 1, 247, 262);
+    near_the_end();
+    say("17 read", read_it(), none, none);
+    say("17 step", step_it(), none, none);
+    say("17 the next step", step_it(), none, none);
+}
+
+static void marks_and_lags(void)
+{
+    blank(129, 128);
+    image[1] = 0xA5;
+    say("blank but for A5, open", open_it(), none, none);
+    opened_a();
+    image[128] = image[125] = 0x07;
+    image[2] = 0xFF;
+    say("5A gone, read", read_it(), none, none);
+    say("5A gone, open", open_it(), none, none);
+    opened_a();
+    image[128] = 0x81;
+    second_answer answer = open_it();
+    say("cell 128 mended, open", answer, 3, 128);
+    opened_a();
+    image[128] = 0xCB;
+    image[125] = 0xB3;
+    answer = step_it();
+    say("lag 1, step", answer, 128, 125);
+    near_the_end();
+    image[128] = 0x80;
+    say("lag 1 at the last count, read", read_it(), none, none);
+    say("lag 1 at the last count, step", step_it(), none, none);
+    say("lag 1 at the last count, open", open_it(), none, none);
+    opened_a();
+    image[34] = 0x34;
+    say("0 and the last count, read", read_it(), none, none);
+}
+
+static void wear(void)
+{
+    opened_a();
+    lives[128] = lives[122] = 0;
+    second_answer answer = step_it();
+    say("cells 128 and 122 worn, step", answer, 3, none);
+    opened_a();
+    lives[128] = lives[3] = 0;
+    answer = step_it();
+    say("cells 128 and 3 worn, step", answer, 3, 122);
+    say_blank("E 255, open", 512, 1, 25, 255);
+    say_blank("E 256, open", 512, 1, 25, 256);
+    say_blank("E 511, open", 512, 1, 25, 511);
+    say_blank("M 18446744073709551593, open", 129, 18446744073709551593u, 25, 128);
+    opened(512, 261);
+    lives[261] = lives[4] = 0;
+    answer = step_it();
+    say("cells 261 and 4 worn, step", answer, 3, 4);
+    say("cells 261 and 4 worn, read", read_it(), none, none);
+    blank(41, 40);
+    lives[40] = 0;
+    say("cell 40 worn, open", open_it(), none, none);
+    opened(41, 40);
+    lives[37] = 0;
+    say("cell 37 worn, step", step_it(), none, none);
+    say("cell 37 worn, read", read_it(), none, none);
+}
+
+int main(void)
+{
+    bench_list();
+    marks_and_lags();
+    wear();
+    return 0;
+}
