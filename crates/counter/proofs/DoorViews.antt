@@ -4,12 +4,14 @@
 --   chip-verdict              a chip lent with its lives reads as its cells do
 --   chip-fitted               and is fit to be opened, if they are unmarked
 --   reopening-good, reopening-refused  a marked chip opened again
+--   unopened-ready, ready-unopened  a chip not yet opened is ready; a ready one without a mark is not yet opened
+--   open-first, open-again    the work of open, by whether the chip was opened before
 --   open-unpaired, open-unfit, open-unmarked, open-marked  the work of open
 --   step-unpaired, step-refused, step-last, step-on  the work of step, by what the chip reads as
 --   good-settled              a good verdict finds the chip fitted, and its map sound
 use Prim.Native.Nat.{ℕ}
 use mathlib.Core.Path.{_≡_, sym, ap, _∙_}
-use mathlib.Core.Bool.{true, false}
+use mathlib.Core.Bool.{true, false, not}
 use lib.IntN.{ℤ}
 use lib.ListN.{length}
 use borrow.Author.Tests.{eq-eqb, ne-eqb}
@@ -24,13 +26,15 @@ use Rattle.counter.specs.declared.verdict.Refusal.the-variants.{BadLengt
 use Rattle.counter.specs.declared.standing.Standing.the-variants.{Unfit, Unmarked, Marked}
 use Rattle.counter.specs.Standing.{standingOf}
 use Rattle.counter.specs.Places.{livesGood, fitted}
-use Rattle.counter.specs.Map.{mapIn, pointerOf, sound}
+use Rattle.counter.specs.Map.{mapIn, marked, pointerOf, sound}
 use Rattle.counter.specs.Verdict.{outcome, outcomeOf, refusalOf, answerOf, ending, _endingIn_}
 use Rattle.counter.specs.Reading.{examine, verdictOf}
 use Rattle.counter.specs.Store.{store}
 use Rattle.counter.proofs.SoundPointers.{sound-test}
 use Rattle.counter.proofs.Standings.{stands-unfit, stands-unmarked, stands-marked, guard-unfit, guard-marked}
-use Rattle.counter.proofs.Fitted.{ready-fitted}
+use Rattle.counter.proofs.RangeTests.{and-true, true-and}
+use Rattle.counter.proofs.Ready.{Ready}
+use Rattle.counter.proofs.Fitted.{fitted-ready, ready-fitted}
 use Rattle.counter.proofs.GoodVerdicts.{verdict-good}
 use Rattle.counter.specs.Doors.{lastCount, chipVerdict, unopened, reopening, beginning, openRun, stepping, stepRun}
 
@@ -45,6 +49,23 @@ unfolding answerOf
 outcome-refused e = ap outcomeOf (sym e)
 
 module _ (copies : ℕ) (p : Places) (s : Chip) where
+  -- a chip is opened for the first time where it is fit and has no mark
+  pub unopened-ready : unopened copies p s ≡ true → Ready copies p s
+  unfolding unopened
+  unopened-ready e = fitted-ready (and-true (fitted copies p s) _ e .0)
+
+  pub ready-unopened : Ready copies p s → marked (mapIn copies p (s .cells)) ≡ false → unopened copies p s ≡ true
+  unfolding unopened
+  ready-unopened ready e = true-and _ _ (ready-fitted ready) (ap not e)
+
+  pub open-first : unopened copies p s ≡ true → openRun copies p s ≡ beginning copies p s
+  unfolding openRun
+  open-first e = rw e
+
+  pub open-again : unopened copies p s ≡ false → openRun copies p s ≡ reopening copies p s
+  unfolding openRun
+  open-again e = rw e
+
   module _ (paired : length (s .lives) ≡ length (s .cells)) where
     lives : livesGood s ≡ true
     unfolding livesGood
@@ -66,8 +87,7 @@ module _ (copies : ℕ) (p : Places) (s : Chip) where
     chip-fitted e = let facts = stands-unmarked copies p (s .cells) e in rw (lives, facts .0, facts .1)
 
     pub open-unmarked : standingOf copies p (s .cells) ≡ Unmarked → openRun copies p s ≡ beginning copies p s
-    unfolding openRun unopened
-    open-unmarked e = let facts = stands-unmarked copies p (s .cells) e in rw (chip-fitted e, facts .2)
+    open-unmarked e = open-first (ready-unopened (fitted-ready (chip-fitted e)) (stands-unmarked copies p (s .cells) e .2))
 
     pub open-marked : standingOf copies p (s .cells) ≡ Marked → openRun copies p s ≡ reopening copies p s
     unfolding openRun unopened fitted

@@ -19,6 +19,7 @@ pub mod StoreCosts
 pub mod Takes
 pub mod NextSpares
 pub mod PointerRows
+pub mod WorkSteps
 pub mod Openings
 pub mod OpeningViews
 pub mod NextStores
@@ -29,5 +30,6 @@ pub mod GoodVerdicts
 pub mod Lags
 pub mod Standings
 pub mod DoorViews
+pub mod DoorAnswers
 pub mod Parts
 pub mod Weighed

@@ -7,14 +7,16 @@
 --   pointer-put               the bytes of an address, read as a pointer, give the address
 --   mark-same                 maps that agree on the first two bytes are marked alike
 --   mark-put                  the mark's two bytes are a mark
+--   mark-none                 a map that starts with another byte has none
 use Prim.Native.Nat.{ℕ, _+_, _/_, _%_, _≤_, _<_, _-_}
 use mathlib.Core.Path.{_≡_, sym, _∙_}
-use mathlib.Core.Bool.{true}
+use mathlib.Core.Bool.{true, false}
 use mathlib.Core.List.{List}
 use native.Mathlib.Nat.{add-zero}
 use native.Mathlib.Omega.{arith}
 use lib.ListN.{length, getD, drop, length-take, length-drop, take}
 use lib.Seq.{getD-take, getD-drop, ext-getD}
+use borrow.Author.Tests.{ne-eqb}
 use Rattle.counter.specs.declared.map.Kind.{Kind}
 use Rattle.counter.specs.declared.map.Kind.the-variants.{High, Low}
 use Rattle.counter.specs.declared.places.Places.{Places}
@@ -81,6 +83,10 @@ mark-same one other e f = rw (e, f)
 pub mark-put : (map : List ℕ) → byteAt map 0 ≡ 0xA5 → byteAt map 1 ≡ 0x5A → marked map ≡ true
 unfolding marked
 mark-put map e f = rw (e, f)
+
+pub mark-none : (map : List ℕ) → (byteAt map 0 ≡ 0xA5 → ⊥) → marked map ≡ false
+unfolding marked
+mark-none map other = rw (ne-eqb _ _ other)
 
 pub map-part : (copies : ℕ) (p : Places) (cells : List ℕ) → take (p .map + mapCells copies - p .map) (drop (p .map) cells) ≡ mapIn copies p cells
 map-part copies p cells = let e : p .map + mapCells copies - p .map ≡ mapCells copies = omega arith in rw e

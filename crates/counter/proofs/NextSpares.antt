@@ -5,17 +5,20 @@
 --   narrow-behind             an address taken behind another
 --   spares-fit                the spares of a gap are a row of cells of the image
 --   spares-none, spares-held, spares-passed  spares tried: none, the next one holds, or the next one fails
+--   spares-written            the next one has life and another byte: it is written, once, and nothing else
 use Prim.Native.Nat.{ℕ, suc, _+_, _-_, _%_, _≤_, _<_, min, max}
-use mathlib.Core.Path.{_≡_, sym}
+use mathlib.Core.Path.{_≡_, sym, ap, _∙_}
 use mathlib.Core.Bool.{Bool, true, false}
+use mathlib.Core.List.{[], _∷_}
 use native.Mathlib.Omega.{arith}
 use Rattle.cells.specs.declared.row.Found.the-variants.{At, Nowhere}
-use Rattle.cells.specs.Chip.{Chip}
-use Rattle.cells.specs.Run.{Seen, seen, view, _then_}
+use Rattle.cells.specs.Chip.{Chip, cellAt, lifeAt, writeAt, Paired}
+use Rattle.cells.specs.Run.{Run, Seen, write, run, seen, view, _then_, _giving_}
 use Rattle.cells.specs.Put.{putAt}
 use Rattle.cells.specs.declared.row.Way.the-variants.{Up, Down}
 use Rattle.cells.specs.Row.{next, RowFits, tryAt}
-use Rattle.cells.proofs.Walks.{next-nth, walk-none, walk-held, walk-miss}
+use Rattle.cells.proofs.Puts.{put-laws}
+use Rattle.cells.proofs.Walks.{next-nth, walk-none, walk-held, walk-miss, walk-laws, try-put}
 use Rattle.counter.specs.declared.map.Kind.{Kind}
 use Rattle.counter.specs.declared.map.Kind.the-variants.{High, Low}
 use Rattle.counter.specs.declared.spares.Gap.{Gap}
@@ -113,3 +116,10 @@ module _ (k : ℕ) (g : Gap) (b : ℕ) (s : Chip) where
     pub spares-passed : putAt at b s .answer ≡ false → trySpares k g b s ≡ tryAt at b s then trySpares k left b (putAt at b s .after)
     unfolding trySpares
     spares-passed h = rw (spares-fewer (kindOf k) g some, ← next-on (kindOf k) g some) (walk-miss _ _ at b s h)
+
+    pub spares-written : Paired s → 1 ≤ lifeAt s at → (cellAt s at ≡ b → ⊥) → trySpares k g b s ≡ run (At at) (write at b ∷ []) 1 (writeAt at b s)
+    unfolding trySpares
+    spares-written paired life other =
+        walk-laws (sparesOf (kindOf k) g) (wayOf (kindOf k)) at b s paired .first (omega arith) life
+        ∙ ap (λ (r : Run Bool). r giving At at) (try-put at b s)
+        ∙ ap (λ (r : Run Bool). run (At at) (r .log) 1 (r .after)) (put-laws at b s paired .taken other life)

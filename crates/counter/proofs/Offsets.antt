@@ -5,6 +5,7 @@
 --   offset-next               a slot's pointer ends where the next slot's begins
 --   offset-before             a slot's pointer ends before any later slot's begins
 --   offset-inside             it ends inside the map
+--   offset-most               no slot's pointer, nor what follows the last one, begins behind the map's end
 --   low-inside, high-inside   so do the two bytes of a Low one, and the one of a High one
 --   offset-low, offset-high   where it starts, by its kind
 --   pointer-low, pointer-high a pointer by its bytes
@@ -101,6 +102,13 @@ pub offset-inside : (copies k : ℕ) → k < slots copies → offsetOf k + bytes
 offset-inside copies k h = go (lies k)
   where
     go : Lies k → offsetOf k + bytesOf (kindOf k) ≤ mapCells copies
+    go (low h′ kind at size) = omega arith
+    go (high h′ kind at size) = omega arith
+
+pub offset-most : (copies k : ℕ) → k ≤ slots copies → offsetOf k ≤ mapCells copies
+offset-most copies k h = go (lies k)
+  where
+    go : Lies k → offsetOf k ≤ mapCells copies
     go (low h′ kind at size) = omega arith
     go (high h′ kind at size) = omega arith
 

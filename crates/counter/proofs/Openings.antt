@@ -44,6 +44,7 @@ use Rattle.counter.proofs.Pointers.{of-map, PointerLaws, pointer-laws, 
 use Rattle.counter.proofs.Moves.{not-done, Ended, Ended.done, Ended.roomless, Ended.unmapped}
 use Rattle.counter.proofs.Stores.{done-then, stopped-then}
 use Rattle.counter.proofs.Takes.{InGap, AllTaken, Takes, take-laws}
+use Rattle.counter.proofs.WorkSteps.{opening-on, opening-ends}
 
 -- ## Pointers, one slot after another
 
@@ -269,14 +270,11 @@ module _ {copies : ℕ} {p : Places} {s : Chip} (ready : Ready copies p s) where
   opening-stop k e = record { within = taking-within; tried = refl; opened = λ d. not-done (sym e ∙ d); ended = roomless k e }
 
   pub opening-laws : Opens copies p s (firstOpening copies p s)
-  unfolding firstOpening
   opening-laws = go (takes .either)
     where
-      go :
-          (taking .answer .work ≡ Done) ⊎ ((j : ℕ) × (taking .answer .work ≡ Stopped (NoSpare j)))
-          → Opens copies p s ((taking giving taking .answer .work) andThen mapping)
-      go (inl e) = rw (done-then (taking giving taking .answer .work) mapping e) (opening-done (takes .all e))
-      go (inr (k, e)) = rw (stopped-then (taking giving taking .answer .work) mapping _ e) (opening-stop k e)
+      go : (taking .answer .work ≡ Done) ⊎ ((j : ℕ) × (taking .answer .work ≡ Stopped (NoSpare j))) → Opens copies p s (firstOpening copies p s)
+      go (inl e) = rw (opening-on copies p s e) (opening-done (takes .all e))
+      go (inr (k, e)) = rw (opening-ends copies p s e) (opening-stop k e)
 
 -- what every slot holds at count 0
 pub zero-code : (k : ℕ) → slotCode 0 k ≡ codeOf 0

@@ -1,12 +1,15 @@
 -- The pointers of all slots as one row of bytes.
---   pointers-row              addresses put as pointers are a row put
+--   mapRow                    bytes put in the map
+--   pointers-row, mark-row    addresses put as pointers are a row put, and so is the mark
+--   row-length                the row of pointers ends where the next slot's pointer begins
 --   laid, laid-none, laid-all, laid-low, laid-high  a row laid slot by slot in an array of bytes
 use Prim.Native.Nat.{ℕ, suc, _+_, _-_, _/_, _%_, _≤_, _<_}
 use mathlib.Core.Path.{_≡_, refl}
 use mathlib.Core.List.{List, [], _∷_, _++_, append-assoc, append-nil}
+use native.Mathlib.Nat.{add-zero}
 use native.Mathlib.Numerals.{add-one}
 use native.Mathlib.Omega.{arith}
-use lib.ListN.{length, getD, take, drop, set, length-set}
+use lib.ListN.{length, getD, take, drop, set, length-append, length-set}
 use lib.Seq.{take-all, take-suc-set, drop-cons, drop-length}
 use Rattle.cells.specs.declared.row.Found.{Found}
 use Rattle.cells.specs.declared.row.Found.the-variants.{At, Nowhere}
@@ -17,16 +20,16 @@ use Rattle.cells.proofs.Rows.{row-none, row-behind, row-alone}
 use Rattle.counter.specs.declared.places.Places.{Places}
 use Rattle.counter.specs.declared.verdict.Work.{Work}
 use Rattle.counter.specs.Slots.{kindOf}
-use Rattle.counter.specs.Map.{offsetIn, offsetOf, pointerBytes}
+use Rattle.counter.specs.Map.{markBytes, offsetIn, offsetOf, pointerBytes}
 use Rattle.counter.specs.Verdict.{_andThen_}
 use Rattle.counter.specs.Store.{putPointer, mapped}
-use Rattle.counter.specs.Opening.{pointerRow, putPointers}
+use Rattle.counter.specs.Opening.{pointerRow, putPointers, putMark}
 use Rattle.counter.proofs.Offsets.{kind-low, kind-high, bytesOf, bytes-length, offset-first, offset-next}
 
 -- ## A row put
 
 -- bytes put in the map
-abbrev mapRow : List ℕ → ℕ → Chip → Run Work
+abbrev pub mapRow : List ℕ → ℕ → Chip → Run Work
 mapRow bs a s = let r = putRow bs a s in r giving mapped (r .answer)
 
 -- a row of map bytes, and then the bytes behind it
@@ -45,6 +48,17 @@ pointers-row (a ∷ rest) k p s =
     let at = p .map + offsetOf k in
     let behind : p .map + offsetOf (k + 1) ≡ at + length bytes = rw (bytes-length (kindOf k) a) (omega (arith, offset-next k)) in
     rw (pointers-row rest (k + 1) p (putRow bytes at s .after), behind) (map-behind bytes (pointerRow rest (k + 1)) at s)
+
+pub mark-row : (p : Places) (s : Chip) → putMark p s ≡ mapRow markBytes (p .map) s
+unfolding putMark
+mark-row p s = refl
+
+pub row-length : (addresses : List ℕ) (k : ℕ) → offsetOf k + length (pointerRow addresses k) ≡ offsetOf (k + length addresses)
+unfolding pointerRow
+row-length [] k = rw (add-zero (offsetOf k), add-zero k)
+row-length (a ∷ rest) k =
+    let sum : k + suc (length rest) ≡ k + 1 + length rest = omega arith in
+    rw (sum, length-append, bytes-length) (omega (arith, offset-next k, row-length rest (k + 1)))
 
 -- ## A row laid slot by slot in an array of bytes
 

@@ -1,7 +1,7 @@
 -- An address put as a slot's pointer: what it keeps, what it changes, what it costs.
 --   OfPointer                 a cell of slot k's pointer
 --   of-map, of-elsewhere      it is a cell of the map, and none of the area
---   mapped-done, mapped-either  how a row of map bytes ends
+--   mapped-done, done-mapped, mapped-either  how a row of map bytes ends
 --   PointerLaws, pointer-laws
 use Prim.Native.Nat.{ℕ, _+_, _≤_, _<_}
 use mathlib.Core.Path.{_≡_, refl, sym, ap, _∙_}
@@ -35,6 +35,10 @@ pub mapped-done : (f : Found) → mapped f ≡ Done → f ≡ Nowhere
 unfolding mapped
 mapped-done (At a) e = cc
 mapped-done Nowhere e = refl
+
+pub done-mapped : (f : Found) → f ≡ Nowhere → mapped f ≡ Done
+unfolding mapped
+done-mapped f e = rw e
 
 pub mapped-either : (f : Found) → (mapped f ≡ Done) ⊎ ((a : ℕ) × (mapped f ≡ Stopped (MapByte a)))
 unfolding mapped

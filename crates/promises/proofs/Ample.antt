@@ -26,6 +26,7 @@ use Rattle.counter.specs.Store.{slotCode, storeSlot, storeFrom, store}
 use Rattle.counter.proofs.SoundPointers.{Sound}
 use Rattle.counter.proofs.Ready.{pointers, dataOf, Ready}
 use Rattle.counter.proofs.Moves.{change, slot-there}
+use Rattle.counter.proofs.WorkSteps.{store-all, store-none, store-next}
 use Rattle.counter.proofs.Written.{slot-written, written-map, written-ready, written-sound, written-data, written-life}
 
 -- w in front of ws, where the test does not hold
@@ -114,9 +115,9 @@ module _ (copies : ℕ) (p : Places) (c : ℕ) where
       (n k : ℕ) (s : Chip) → k + n ≤ slots copies → Ready copies p s
       → Sound (slots copies) p (pointers copies p s) → Alive copies p n k c s
       → Calm copies p n k c s (storeFrom n k copies p c s)
-  unfolding storeFrom changedWrites
-  calm-from zero k s fits ready sound alive = record { done = refl; tried = refl; map = refl; log = refl }
-  calm-from (suc n) k s fits ready sound alive = go (calm-from n (k + 1)) (ℕ-discrete (dataOf copies p s k) (slotCode c k))
+  unfolding changedWrites
+  calm-from zero k s fits ready sound alive = rw (store-none copies p c k s) (record { done = refl; tried = refl; map = refl; log = refl })
+  calm-from (suc n) k s fits ready sound alive = rw (store-next copies p c n k s) (go (calm-from n (k + 1)) (ℕ-discrete (dataOf copies p s k) (slotCode c k)))
     where
       Rest : Type 0
       Rest =
@@ -143,8 +144,7 @@ module _ (copies : ℕ) (p : Places) (c : ℕ) where
   pub calm-store :
       (s : Chip) → Ready copies p s → Sound (slots copies) p (pointers copies p s)
       → Alive copies p (slots copies) 0 c s → Calm copies p (slots copies) 0 c s (store copies p c s)
-  unfolding store
-  calm-store s ready sound alive = calm-from (slots copies) 0 s (omega arith) ready sound alive
+  calm-store s ready sound alive = rw (store-all copies p c s) (calm-from (slots copies) 0 s (omega arith) ready sound alive)
 
 -- ## Tallies
 

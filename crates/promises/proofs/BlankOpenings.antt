@@ -3,7 +3,7 @@
 --   OpenCalm, open-calm       it answers, tries no spare, asks one write of each slot's cell and at most one of any other
 use Prim.Native.Nat.{ℕ, _+_, _≤_, _<_}
 use mathlib.Core.Path.{_≡_, ap, _∙_}
-use mathlib.Core.Bool.{true, false, not}
+use mathlib.Core.Bool.{false}
 use native.Mathlib.Omega.{arith}
 use lib.IntN.{pos}
 use lib.ListN.{length, getD}
@@ -18,18 +18,18 @@ use Rattle.counter.specs.declared.verdict.Work.the-variants.{Done}
 use Rattle.counter.specs.Slots.{slots}
 use Rattle.counter.specs.Map.{mapIn, byteAt, marked}
 use Rattle.counter.specs.Spares.{wholeArea}
-use Rattle.counter.specs.Verdict.{ending, _endingIn_, _andThen_}
+use Rattle.counter.specs.Verdict.{ending, _andThen_}
 use Rattle.counter.specs.Opening.{Taken, takeFrom, putPointers, putMark, untried, firstOpening}
-use Rattle.counter.specs.Doors.{unopened, openRun}
+use Rattle.counter.specs.Doors.{beginning, openRun}
 use Rattle.code.proofs.CodeLaws.{code-zero}
 use Rattle.cells.proofs.AskedOnce.{asked-outside, Once, once-append}
-use Rattle.counter.proofs.RangeTests.{true-and}
-use Rattle.counter.proofs.MapBytes.{map-byte}
-use Rattle.counter.proofs.Fitted.{ready-fitted}
+use Rattle.counter.proofs.MapBytes.{map-byte, mark-none}
 use Rattle.counter.proofs.Ready.{pointers, Ready, InMap, ready-placed, ready-kept, inside-cell, apart-map}
 use Rattle.counter.proofs.Takes.{InGap, AllTaken, Takes, take-laws}
+use Rattle.counter.proofs.WorkSteps.{opening-on}
 use Rattle.counter.proofs.Openings.{whole-inside, opening-laws, Maps, maps-laws}
 use Rattle.counter.proofs.Exact.{Exact, exact-opened}
+use Rattle.counter.proofs.DoorViews.{ready-unopened, open-first}
 use Rattle.promises.proofs.CalmTakes.{roomy-whole, CalmTake, calm-take}
 use Rattle.promises.proofs.CalmMaps.{Calmly, calm-maps}
 
@@ -49,19 +49,13 @@ module _ {copies : ℕ} {p : Places} {s : Chip} (fresh : BlankAlive copies p s) 
   -- ## The mark is not there
 
   no-mark : marked (mapIn copies p (s .cells)) ≡ false
-  unfolding marked
   no-mark =
       let fits = ready-placed (fresh .ready) .mapFits in
       let first : byteAt (mapIn copies p (s .cells)) 0 ≡ 0xFF = map-byte copies p (s .cells) 0 (omega arith) ∙ fresh .blank (p .map + 0) (omega arith) in
-      rw first
+      mark-none _ (λ e. omega arith)
 
-  is-unopened : unopened copies p s ≡ true
-  unfolding unopened
-  is-unopened = true-and _ _ (ready-fitted (fresh .ready)) (ap not no-mark)
-
-  opens-first : openRun copies p s ≡ firstOpening copies p s endingIn Good 0 (pos 0)
-  unfolding openRun
-  opens-first = rw is-unopened
+  opens-first : openRun copies p s ≡ beginning copies p s
+  opens-first = open-first copies p s (ready-unopened copies p s (fresh .ready) no-mark)
 
   -- ## The addresses
 
@@ -109,8 +103,7 @@ module _ {copies : ℕ} {p : Places} {s : Chip} (fresh : BlankAlive copies p s) 
   -- ## Both
 
   opening-is : firstOpening copies p s ≡ (untried taking giving taking .answer .work) then mapping
-  unfolding firstOpening
-  opening-is = rw (taken-calm .done)
+  opening-is = opening-on copies p s (taken-calm .done)
 
   done : firstOpening copies p s .answer ≡ Done
   done = rw opening-is (mapping-calm .done)

@@ -5,34 +5,32 @@
 --   CalmTake, calm-take       the taking is done, each address asked one write and no cell more than one
 use Prim.Native.Nat.{ℕ, zero, suc, _+_, _-_, _*_, _/_, _%_, _≤_, _<_}
 use mathlib.Core.Path.{_≡_, refl, sym, ap, _∙_}
-use mathlib.Core.Bool.{Bool}
 use mathlib.Core.List.{[], _∷_}
 use native.Mathlib.Decide.{decLt}
 use native.Mathlib.Omega.{arith}
 use lib.ListN.{getD}
 use Rattle.code.specs.Codes.{codeOf}
+use Rattle.cells.specs.declared.row.Found.{Found}
 use Rattle.cells.specs.declared.row.Found.the-variants.{At}
 use Rattle.cells.specs.Chip.{Chip, cellAt, lifeAt, writeAt, Paired, Kept}
 use Rattle.cells.specs.Run.{Run, write, run, _then_, _giving_}
 use Rattle.cells.specs.Log.{askedOf, Every.none, Every.more}
 use Rattle.cells.proofs.Writes.{kept-paired, write-laws}
 use Rattle.cells.proofs.Logs.{asked-here, asked-elsewhere, asked-most}
-use Rattle.cells.proofs.Puts.{put-laws}
-use Rattle.cells.proofs.Walks.{walk-laws, try-put}
 use Rattle.counter.specs.declared.map.Kind.{Kind}
-use Rattle.counter.specs.declared.map.Kind.the-variants.{High, Low}
 use Rattle.counter.specs.declared.places.Places.{Places}
 use Rattle.counter.specs.declared.spares.Gap.{Gap}
 use Rattle.counter.specs.declared.verdict.Work.the-variants.{Done}
 use Rattle.counter.specs.Slots.{slots, kindOf}
-use Rattle.counter.specs.Spares.{wholeArea, narrow, wayOf, nextOf, sparesOf}
+use Rattle.counter.specs.Spares.{wholeArea, narrow, nextOf, sparesOf}
 use Rattle.counter.specs.Store.{trySpares}
 use Rattle.counter.specs.Opening.{Taken, taken, takeFrom}
 use Rattle.cells.proofs.AskedOnce.{Once, once-none, once-append, asked-outside}
 use Rattle.counter.proofs.Settings.{Placed}
-use Rattle.counter.proofs.Offsets.{kind-low, kind-high}
 use Rattle.counter.proofs.Gaps.{Free}
-use Rattle.counter.proofs.Takes.{InGap, Takes, narrow-inside, narrow-other, take-laws}
+use Rattle.counter.proofs.Takes.{InGap, Takes, narrow-inside, narrow-other, take-landing, take-laws}
+use Rattle.counter.proofs.NextSpares.{Next, next-free, low-next, high-next, spares-written}
+use Rattle.counter.proofs.WorkSteps.{whole-gap, take-none}
 
 abbrev pub highs : ℕ → ℕ
 highs k = 5 * (k / 8) + (k % 8 - 3)
@@ -43,8 +41,7 @@ pub record Roomy (n k : ℕ) (g : Gap) : Type 0 where
   pub reach : g .high + highs (k + n) ≤ 256 + highs k
 
 pub roomy-whole : {copies n : ℕ} {p : Places} → Placed copies n p → Roomy (slots copies) 0 (wholeArea p)
-unfolding wholeArea
-roomy-whole placed = record { cells = placed .large; reach = let h = placed .startLow in let h′ = placed .startReaches in omega arith }
+roomy-whole {copies} {n} {p} placed = rw (whole-gap p) (record { cells = placed .large; reach = let h = placed .startLow in let h′ = placed .startReaches in omega arith })
 
 -- the next address of a kind is free, and what it leaves has room for the other slots
 pub record NextFree (kind : Kind) (n k : ℕ) (g : Gap) : Type 0 where
@@ -53,34 +50,26 @@ pub record NextFree (kind : Kind) (n k : ℕ) (g : Gap) : Type 0 where
   pub roomy : Roomy n (k + 1) (narrow kind (nextOf kind g) g)
 
 module _ (n k : ℕ) (g : Gap) (room : Roomy (suc n) k g) where
-  next-low : k % 8 < 3 → NextFree Low n k g
-  unfolding sparesOf nextOf narrow
-  next-low l =
-      let cells = room .cells in
-      let reach = room .reach in
-      record {
-        some = omega arith;
-        free = record { from = omega arith; to = omega arith; reach = λ e. let z : _≡_ {A = ℕ} 0 1 = cc in absurd (omega arith) };
-        roomy = record { cells = omega arith; reach = let e : k + 1 + n ≡ k + suc n = omega arith in rw e (omega arith) };
-      }
+  next-roomy : {a : ℕ} {left : Gap} → Next k g a left → Roomy n (k + 1) left → NextFree (kindOf k) n k g
+  next-roomy next roomy =
+      let some = next .some in
+      record { some = omega arith; free = next-free (kindOf k) g some; roomy = rw (← next .here, ← next .leaves) roomy }
 
-  next-high : 3 ≤ k % 8 → NextFree High n k g
-  unfolding sparesOf nextOf narrow
-  next-high l =
-      let cells = room .cells in
-      let reach = room .reach in
-      record {
-        some = omega arith;
-        free = record { from = omega arith; to = omega arith; reach = λ e. omega arith };
-        roomy = record { cells = omega arith; reach = let e : k + 1 + n ≡ k + suc n = omega arith in rw e (omega arith) };
-      }
-
-  next-free : NextFree (kindOf k) n k g
-  next-free = go (decLt (k % 8) 3)
+  next-is-free : NextFree (kindOf k) n k g
+  next-is-free = go (decLt (k % 8) 3)
     where
+      sum : k + 1 + n ≡ k + suc n
+      sum = omega arith
+
       go : Dec (k % 8 < 3) → NextFree (kindOf k) n k g
-      go (yes l) = rw (kind-low k l) (next-low l)
-      go (no l) = let h : 3 ≤ k % 8 = omega arith in rw (kind-high k h) (next-high h)
+      go (yes l) =
+          let cells = room .cells in
+          let reach = room .reach in
+          next-roomy (low-next k g l (omega arith)) (record { cells = omega arith; reach = rw sum (omega arith) })
+      go (no l) =
+          let cells = room .cells in
+          let reach = room .reach in
+          next-roomy (high-next k g (omega arith) (omega arith) (omega arith)) (record { cells = omega arith; reach = rw sum (omega arith) })
 
 -- every cell of a gap has life and reads another byte than 80
 pub record Untouched (g : Gap) (s : Chip) : Type 0 where
@@ -108,11 +97,7 @@ module _ (n k : ℕ) (g : Gap) (s : Chip) (untouched : Untouched g s) (next : Ne
   in-gap = record { from = next .free .from; to = next .free .to }
 
   spares-are : trySpares k g (codeOf 0) s ≡ run (At a) (write a (codeOf 0) ∷ []) 1 t
-  unfolding trySpares
-  spares-are =
-      walk-laws (sparesOf (kindOf k) g) (wayOf (kindOf k)) a (codeOf 0) s (untouched .paired) .first (next .some) (untouched .alive a in-gap)
-      ∙ ap (λ (r : Run Bool). r giving At a) (try-put a (codeOf 0) s)
-      ∙ ap (λ (r : Run Bool). run (At a) (r .log) 1 (r .after)) (put-laws a (codeOf 0) s (untouched .paired) .taken (untouched .other a in-gap) (untouched .alive a in-gap))
+  spares-are = let some = next .some in spares-written k g (codeOf 0) s (omega arith) (untouched .paired) (untouched .alive a in-gap) (untouched .other a in-gap)
 
   kept : Kept (λ c. c ≡ a) s t
   kept = write-laws a (codeOf 0) s .kept
@@ -135,8 +120,7 @@ module _ (n k : ℕ) (g : Gap) (s : Chip) (untouched : Untouched g s) (next : Ne
   rest = takeFrom n (k + 1) left t
 
   take-is : takeFrom (suc n) k g s ≡ run (At a) (write a (codeOf 0) ∷ []) 1 t then (rest giving taken (rest .answer .work) (a ∷ rest .answer .addresses))
-  unfolding takeFrom
-  take-is = rw spares-are
+  take-is = take-landing n k g s a (ap (λ (r : Run Found). r .answer) spares-are) ∙ rw spares-are
 
   module _ (calm : CalmTake n rest) where
     takes : Takes n (k + 1) left t rest
@@ -160,8 +144,7 @@ module _ (n k : ℕ) (g : Gap) (s : Chip) (untouched : Untouched g s) (next : Ne
     more-calm = rw take-is (record { done = calm .done; asked = asked-more; once = once-more })
 
 pub calm-take : (n k : ℕ) (g : Gap) (s : Chip) → Roomy n k g → Untouched g s → CalmTake n (takeFrom n k g s)
-unfolding takeFrom
-calm-take zero k g s room untouched = record { done = refl; asked = λ j l. absurd (omega arith); once = once-none }
+calm-take zero k g s room untouched = rw (take-none k g s) (record { done = refl; asked = λ j l. absurd (omega arith); once = once-none })
 calm-take (suc n) k g s room untouched =
-    let next = next-free n k g room in
+    let next = next-is-free n k g room in
     more-calm n k g s untouched next (calm-take n (k + 1) _ _ (next .roomy) (left-untouched n k g s untouched next))

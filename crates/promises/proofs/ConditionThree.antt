@@ -13,7 +13,7 @@ use Rattle.counter.specs.Slots.{two}
 use Rattle.counter.specs.Doors.{lastCount, openRun, openOf}
 use Rattle.promises.specs.Runs.{stepsAfter, Fresh, Lasts, dataWrites, areaCells, dataBound}
 use Rattle.counter.proofs.Settings.{length-good}
-use Rattle.promises.proofs.Codes.{code-good}
+use Rattle.counter.proofs.DoorAnswers.{code-good, open-is}
 use Rattle.promises.proofs.Wear.{fresh-lasts}
 use Rattle.promises.proofs.RunBounds.{run-bound}
 
@@ -34,7 +34,7 @@ module _ (n : ℕ) (p : Places) (s : Chip) where
   pub data-writes :
       openOf two p s .says .code ≡ 0
       → dataWrites p (stepsAfter n two p s .log) ≤ 2 * length (stepsAfter n two p s .answer) + areaCells p - 16
-  unfolding openOf dataBound
+  unfolding dataBound
   data-writes e =
-      let good = code-good (openRun two p s .answer) (length (openRun two p s .log)) (openRun two p s .tried) e in
+      let good = code-good (openRun two p s .answer) (length (openRun two p s .log)) (openRun two p s .tried) (rw (open-is two p s) at e) in
       run-bound n two p s (omega arith) (good .2)

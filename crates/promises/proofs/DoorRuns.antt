@@ -2,15 +2,13 @@
 --   Comes                     refused with nothing touched, stopped, or good with an exact chip
 --   DoorLaws                  where a door's work writes, and how it ends
 --   open-laws, step-laws      they hold of open and of step
---   step-refused, step-last, step-on  the work of a step, by what the chip reads as
-use Prim.Native.Nat.{ℕ, _+_, _^_, _<_}
+use Prim.Native.Nat.{ℕ, _^_, _<_}
 use mathlib.Core.Path.{_≡_, refl, sym, ap, _∙_}
 use mathlib.Core.Bool.{Bool, true, false}
 use native.Mathlib.Decide.{ℕ-discrete}
 use native.Mathlib.Omega.{arith}
 use lib.IntN.{ℤ, pos}
-use borrow.Author.Tests.{ne-eqb}
-use Rattle.cells.specs.Chip.{Chip, pick}
+use Rattle.cells.specs.Chip.{Chip}
 use Rattle.cells.specs.Run.{Run, still}
 use Rattle.cells.specs.Log.{Within}
 use Rattle.cells.proofs.Logs.{within-still, within-giving, within-then}
@@ -21,19 +19,17 @@ use Rattle.counter.specs.declared.verdict.Verdict.{Verdict}
 use Rattle.counter.specs.declared.verdict.Verdict.the-variants.{Good, Refused}
 use Rattle.counter.specs.declared.verdict.Work.{Work}
 use Rattle.counter.specs.declared.verdict.Work.the-variants.{Done}
-use Rattle.counter.specs.Places.{fitted}
 use Rattle.counter.specs.Verdict.{onGood, ending, _endingIn_, _andThen_}
 use Rattle.counter.specs.Store.{store}
 use Rattle.counter.specs.Opening.{firstOpening}
 use Rattle.counter.specs.Doors.{lastCount, chipVerdict, unopened, openRun, stepRun}
-use Rattle.counter.proofs.Fitted.{fitted-ready}
-use Rattle.counter.proofs.RangeTests.{and-true}
 use Rattle.counter.proofs.Ready.{Ready, Own}
 use Rattle.counter.proofs.Moves.{not-done, Ended, Ended.done, Ended.roomless, Ended.unmapped}
 use Rattle.counter.proofs.Stores.{store-laws, done-then, stopped-then}
 use Rattle.counter.proofs.Openings.{opening-laws}
 use Rattle.counter.proofs.Exact.{Exact, exact-stored, exact-opened}
 use Rattle.counter.proofs.GoodVerdicts.{VerdictGood, verdict-good}
+use Rattle.counter.proofs.DoorViews.{unopened-ready, open-first, open-again, step-refused, step-last, step-on}
 
 pub data Comes (copies : ℕ) (p : Places) (s : Chip) (r : Run Verdict) : Type 0 where
   untouched : (why : Refusal) → r ≡ still (Refused why) s → Comes copies p s r
@@ -98,55 +94,31 @@ module _ {copies : ℕ} {p : Places} {s : Chip} where
 
 -- ## Open
 
--- the tests before a first opening
-pub unopened-ready : (copies : ℕ) (p : Places) (s : Chip) → unopened copies p s ≡ true → Ready copies p s
-unfolding unopened
-unopened-ready copies p s e = fitted-ready (and-true (fitted copies p s) _ e .0)
-
 module _ (copies : ℕ) (p : Places) (s : Chip) where
   again : (v : Verdict) → chipVerdict copies p s ≡ v → DoorLaws copies p s (onGood v (λ c lag. store copies p c s endingIn Good c lag) s)
   again (Good c lag) e = let v = verdict-good copies p s e .1 in ending-laws lag (store copies p c s) (v .small) (store-leaves v)
   again (Refused why) e = refused-laws why
 
   pub open-laws : DoorLaws copies p s (openRun copies p s)
-  unfolding openRun
   open-laws = go (unopened copies p s) refl
     where
-      go :
-          (t : Bool) → unopened copies p s ≡ t
-          → DoorLaws copies p s (pick t (firstOpening copies p s endingIn Good 0 (pos 0)) (onGood (chipVerdict copies p s) (λ c lag. store copies p c s endingIn Good c lag) s))
-      go true e = ending-laws (pos 0) (firstOpening copies p s) (omega arith) (opening-leaves (unopened-ready copies p s e))
-      go false e = again (chipVerdict copies p s) refl
+      go : (t : Bool) → unopened copies p s ≡ t → DoorLaws copies p s (openRun copies p s)
+      go true e = rw (open-first copies p s e) (ending-laws (pos 0) (firstOpening copies p s) (omega arith) (opening-leaves (unopened-ready copies p s e)))
+      go false e = rw (open-again copies p s e) (again (chipVerdict copies p s) refl)
 
 -- ## Step
 
 module _ (copies : ℕ) (p : Places) (s : Chip) where
-  abbrev stepped : ℕ → ℤ → Run Verdict
-  stepped c lag = (store copies p c s andThen store copies p (c + 1)) endingIn Good (c + 1) lag
-
-  -- the work of a step, by what the chip reads as
-  pub step-refused : (why : Refusal) → chipVerdict copies p s ≡ Refused why → stepRun copies p s ≡ still (Refused why) s
-  unfolding stepRun
-  step-refused why e = rw e
-
-  pub step-last : (c : ℕ) (lag : ℤ) → chipVerdict copies p s ≡ Good c lag → c ≡ lastCount → stepRun copies p s ≡ still (Refused LastCount) s
-  unfolding stepRun
-  step-last c lag e l = rw (e, l)
-
-  pub step-on : (c : ℕ) (lag : ℤ) → chipVerdict copies p s ≡ Good c lag → (c ≡ lastCount → ⊥) → stepRun copies p s ≡ stepped c lag
-  unfolding stepRun
-  step-on c lag e n = rw (e, ne-eqb c lastCount n)
-
   pub step-laws : DoorLaws copies p s (stepRun copies p s)
   step-laws = go (chipVerdict copies p s) refl
     where
       counted : (c : ℕ) (lag : ℤ) → chipVerdict copies p s ≡ Good c lag → Dec (c ≡ lastCount) → DoorLaws copies p s (stepRun copies p s)
-      counted c lag e (yes l) = rw (step-last c lag e l) (refused-laws LastCount)
+      counted c lag e (yes l) = rw (step-last copies p s c lag e l) (refused-laws LastCount)
       counted c lag e (no n) =
           let v = verdict-good copies p s e .1 in
           let small = v .small in
-          rw (step-on c lag e n) (ending-laws lag _ (omega arith) (two-leave v))
+          rw (step-on copies p s c lag e n) (ending-laws lag _ (omega arith) (two-leave v))
 
       go : (v : Verdict) → chipVerdict copies p s ≡ v → DoorLaws copies p s (stepRun copies p s)
       go (Good c lag) e = counted c lag e (ℕ-discrete c lastCount)
-      go (Refused why) e = rw (step-refused why e) (refused-laws why)
+      go (Refused why) e = rw (step-refused copies p s why e) (refused-laws why)

@@ -32,7 +32,7 @@ use Rattle.counter.proofs.Moves.{roomOf}
 use Rattle.counter.proofs.Stores.{changes, changes-same, Stores, store-laws}
 use Rattle.counter.proofs.Exact.{Exact, exact-stored, exact-verdict, exact-still}
 use Rattle.counter.proofs.GoodVerdicts.{not-good}
-use Rattle.promises.proofs.DoorRuns.{step-on}
+use Rattle.counter.proofs.DoorViews.{step-on}
 use Rattle.counter.proofs.NextStores.{changedNibble, step-changed, step-stays}
 use Rattle.promises.proofs.StepChanges.{change-step, step-changes}
 use Rattle.promises.proofs.Ample.{changedWrites, writes-same, Calm, Alive, calm-store, tally-slot, tally-other}

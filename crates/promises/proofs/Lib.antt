@@ -1,7 +1,6 @@
 pub mod Bench
 pub mod NoSecond
 pub mod DoorRuns
-pub mod Codes
 pub mod Untouched
 pub mod OwnCells
 pub mod TurnsAndCells

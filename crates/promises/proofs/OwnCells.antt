@@ -6,13 +6,12 @@ use Rattle.cells.proofs.Logs.{within-kept}
 use Rattle.counter.specs.declared.places.Places.{Places}
 use Rattle.counter.specs.Doors.{openOf, stepOf}
 use Rattle.counter.proofs.Ready.{Own}
+use Rattle.counter.proofs.DoorAnswers.{open-is, step-is}
 use Rattle.promises.proofs.DoorRuns.{open-laws, step-laws}
 
 module _ (copies : ℕ) (p : Places) (s : Chip) where
   pub open-keeps : Kept (Own copies p) s (openOf copies p s .leaves)
-  unfolding openOf
-  open-keeps = within-kept (open-laws copies p s .within)
+  open-keeps = rw (open-is copies p s) (within-kept (open-laws copies p s .within))
 
   pub step-keeps : Kept (Own copies p) s (stepOf copies p s .leaves)
-  unfolding stepOf
-  step-keeps = within-kept (step-laws copies p s .within)
+  step-keeps = rw (step-is copies p s) (within-kept (step-laws copies p s .within))

@@ -27,9 +27,10 @@ use Rattle.counter.proofs.SoundPointers.{Sound}
 use Rattle.counter.proofs.Ready.{pointers, dataOf, Ready, ready-kept}
 use Rattle.counter.proofs.Moves.{change, Ended, Ended.done, Ended.roomless, Ended.unmapped, Moves, slot-laws}
 use Rattle.counter.proofs.Stores.{Stores, store-laws, done-then, stopped-then}
-use Rattle.promises.proofs.Codes.{code-eight}
+use Rattle.counter.proofs.WorkSteps.{store-all, store-none, store-next}
+use Rattle.counter.proofs.DoorAnswers.{code-eight, step-is}
 use Rattle.counter.proofs.GoodVerdicts.{VerdictGood, verdict-good, verdict-room}
-use Rattle.promises.proofs.DoorRuns.{step-refused, step-last, step-on}
+use Rattle.counter.proofs.DoorViews.{step-refused, step-last, step-on}
 use Rattle.promises.proofs.Room.{Full, slot-only}
 
 module _ (copies : ℕ) (p : Places) (c : ℕ) where
@@ -39,15 +40,19 @@ module _ (copies : ℕ) (p : Places) (c : ℕ) where
       → Sound (slots copies) p (pointers copies p s)
       → storeFrom n k copies p c s .answer ≡ Stopped (NoSpare j)
       → Full copies p j (slotCode c j) (storeFrom n k copies p c s .after)
-  unfolding storeFrom
-  from-full zero k s j fits ready sound e = let z : _≡_ {A = ℕ} 0 1 = cc in absurd (omega arith)
-  from-full (suc n) k s j fits ready sound e = go (from-full n (k + 1)) (slot .ended)
+  from-full zero k s j fits ready sound e =
+      let q = sym (ap (λ (w : Run Work). w .answer) (store-none copies p c k s)) ∙ e in
+      let z : _≡_ {A = ℕ} 0 1 = cc in absurd (omega arith)
+  from-full (suc n) k s j fits ready sound e = rw (store-next copies p c n k s) (go (from-full n (k + 1)) (slot .ended))
     where
       r : Run Work
       r = storeSlot copies p k (slotCode c k) s
 
       rest : Chip → Run Work
       rest = storeFrom n (k + 1) copies p c
+
+      stops : (r andThen rest) .answer ≡ Stopped (NoSpare j)
+      stops = sym (ap (λ (w : Run Work). w .answer) (store-next copies p c n k s)) ∙ e
 
       slot : Moves copies p k (slotCode c k) (change (dataOf copies p s k) (slotCode c k)) s r
       slot = slot-laws ready sound k (omega arith) (slotCode c k)
@@ -65,20 +70,19 @@ module _ (copies : ℕ) (p : Places) (c : ℕ) where
       go : Rest → Ended (r .answer) → Full copies p j (slotCode c j) ((r andThen rest) .after)
       go later (done q) =
           let h = ap (λ (w : Run Work). w .answer) (done-then r rest q) in
-          rw (done-then r rest q) (later (r .after) j (omega arith) (ready-kept ready (within-kept (slot .within))) (slot .settles q .sound) (sym h ∙ e))
+          rw (done-then r rest q) (later (r .after) j (omega arith) (ready-kept ready (within-kept (slot .within))) (slot .settles q .sound) (sym h ∙ stops))
       go later (roomless i q) =
           let h = ap (λ (w : Run Work). w .answer) (stopped-then r rest _ q) in
-          rw (stopped-then r rest _ q) (here j (sym h ∙ e))
+          rw (stopped-then r rest _ q) (here j (sym h ∙ stops))
       go later (unmapped a q) =
-          let h = ap (λ (w : Run Work). w .answer) (stopped-then r rest _ q) in
+          let h = sym (ap (λ (w : Run Work). w .answer) (stopped-then r rest _ q)) ∙ stops in
           let z : _≡_ {A = ℕ} 0 1 = cc in absurd (omega arith)
 
   pub store-full :
       (s : Chip) (j : ℕ) → Ready copies p s → Sound (slots copies) p (pointers copies p s)
       → store copies p c s .answer ≡ Stopped (NoSpare j)
       → Full copies p j (slotCode c j) (store copies p c s .after)
-  unfolding store
-  store-full s j ready sound e = from-full (slots copies) 0 s j (omega arith) ready sound e
+  store-full s j ready sound e = rw (store-all copies p c s) (from-full (slots copies) 0 s j (omega arith) ready sound (rw (store-all copies p c s) at e))
 
 -- ## A step
 
@@ -141,6 +145,6 @@ module _ (copies : ℕ) (p : Places) (s : Chip) (k : ℕ) (e : stepRun copies p 
 
 -- a step of code 8 finds the cell of the slot that it names, and every spare of that kind, refusing the byte
 pub step-full : (copies : ℕ) (p : Places) (s : Chip) → stepOf copies p s .says .code ≡ 8 → StepFull copies p s (stepOf copies p s .says .place)
-unfolding stepOf
-step-full copies p s e =
-    run-full copies p s _ (code-eight (stepRun copies p s .answer) (length (stepRun copies p s .log)) (stepRun copies p s .tried) e) (chipVerdict copies p s) refl
+step-full copies p s =
+    rw (step-is copies p s)
+    (λ e. run-full copies p s _ (code-eight (stepRun copies p s .answer) (length (stepRun copies p s .log)) (stepRun copies p s .tried) e) (chipVerdict copies p s) refl)

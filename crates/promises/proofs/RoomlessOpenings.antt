@@ -15,7 +15,7 @@ use lib.IntN.{ℤ, pos}
 use lib.ListN.{length, getD}
 use Rattle.code.specs.Codes.{codeOf}
 use Rattle.cells.specs.Chip.{Chip, Paired}
-use Rattle.cells.specs.Run.{Run, _giving_}
+use Rattle.cells.specs.Run.{Run}
 use Rattle.cells.proofs.Writes.{kept-paired}
 use Rattle.cells.proofs.Logs.{within-kept}
 use Rattle.cells.proofs.Puts.{Refuses}
@@ -29,20 +29,20 @@ use Rattle.counter.specs.declared.verdict.Verdict.the-variants.{Good, Refused}
 use Rattle.counter.specs.Slots.{slots, kindOf}
 use Rattle.counter.specs.Map.{listed}
 use Rattle.counter.specs.Spares.{wholeArea, narrow}
-use Rattle.counter.specs.Verdict.{onGood, _endingIn_, _andThen_}
+use Rattle.counter.specs.Verdict.{_andThen_}
 use Rattle.counter.specs.Reading.{verdictOf}
-use Rattle.counter.specs.Store.{slotCode, trySpares, store}
-use Rattle.counter.specs.Opening.{Taken, takeFrom, putPointers, putMark, untried, firstOpening}
+use Rattle.counter.specs.Store.{slotCode, trySpares}
+use Rattle.counter.specs.Opening.{Taken, takeFrom, putPointers, putMark, firstOpening}
 use Rattle.counter.specs.Doors.{chipVerdict, unopened, openRun, openOf}
 use Rattle.counter.proofs.Gaps.{Between, between-none, between-more, Spare, spare-free}
 use Rattle.counter.proofs.Ready.{Ready, ready-kept}
 use Rattle.counter.proofs.Tries.{Missing, Landing, Trying, Trying.missing, Trying.landing, try-laws}
 use Rattle.counter.proofs.Takes.{Takes, take-landing, take-missing, take-laws}
 use Rattle.counter.proofs.Openings.{MapEnded, MapEnded.put, MapEnded.failed, maps-laws}
-use Rattle.counter.proofs.Stores.{done-then, stopped-then}
-use Rattle.promises.proofs.Codes.{code-eight}
+use Rattle.counter.proofs.WorkSteps.{take-none, opening-on, opening-ends}
+use Rattle.counter.proofs.DoorViews.{unopened-ready, open-first, open-again, reopening-refused, reopening-good}
+use Rattle.counter.proofs.DoorAnswers.{code-eight, open-is}
 use Rattle.counter.proofs.GoodVerdicts.{verdict-good, verdict-room}
-use Rattle.promises.proofs.DoorRuns.{unopened-ready}
 use Rattle.promises.proofs.Room.{Full}
 use Rattle.promises.proofs.RoomlessDoors.{ending-stopped, store-full}
 
@@ -56,8 +56,8 @@ pub record TakeFull (k : ℕ) (g : Gap) (j : ℕ) (r : Run Taken) : Type 0 where
       → (a : ℕ) → Spare (kindOf j) j p pointer a → Refuses a (codeOf 0) (r .after)
 
 module _ (n k : ℕ) (g : Gap) (s : Chip) (j : ℕ) where
-  take-none : Missing k g (codeOf 0) s → takeFrom (suc n) k g s .answer .work ≡ Stopped (NoSpare j) → TakeFull k g j (takeFrom (suc n) k g s)
-  take-none m e =
+  take-missed : Missing k g (codeOf 0) s → takeFrom (suc n) k g s .answer .work ≡ Stopped (NoSpare j) → TakeFull k g j (takeFrom (suc n) k g s)
+  take-missed m e =
       let q = take-missing n k g s (m .nowhere) in
       let here : j ≡ k = (let same = sym e ∙ ap (λ (r : Run Taken). r .answer .work) q in cc) in
       rw (q, here)
@@ -83,8 +83,9 @@ module _ (n k : ℕ) (g : Gap) (s : Chip) (j : ℕ) where
 
 -- no addresses, no refusal
 none-taken : (k : ℕ) (g : Gap) (s : Chip) (j : ℕ) → takeFrom 0 k g s .answer .work ≡ Stopped (NoSpare j) → ⊥
-unfolding takeFrom
-none-taken k g s j e = let z : _≡_ {A = ℕ} 0 1 = cc in omega arith
+none-taken k g s j e =
+    let q = sym (ap (λ (r : Run Taken). r .answer .work) (take-none k g s)) ∙ e in
+    let z : _≡_ {A = ℕ} 0 1 = cc in omega arith
 
 pub take-full :
     (n k : ℕ) (g : Gap) (s : Chip) (j : ℕ) → Paired s → takeFrom n k g s .answer .work ≡ Stopped (NoSpare j)
@@ -96,7 +97,7 @@ take-full (suc n) k g s j paired e = go (λ m. take-full n (k + 1) (narrow (kind
         ((m : Landing k g (codeOf 0) s) → takeFrom n (k + 1) (narrow (kindOf k) (m .place) g) (trySpares k g (codeOf 0) s .after) .answer .work ≡ Stopped (NoSpare j)
         → TakeFull (k + 1) (narrow (kindOf k) (m .place) g) j (takeFrom n (k + 1) (narrow (kindOf k) (m .place) g) (trySpares k g (codeOf 0) s .after)))
         → Trying k g (codeOf 0) s → TakeFull k g j (takeFrom (suc n) k g s)
-    go later (missing m) = take-none n k g s j m e
+    go later (missing m) = take-missed n k g s j m e
     go later (landing m) = take-more n k g s j m (later m (sym (ap (λ (r : Run Taken). r .answer .work) (take-landing n k g s (m .place) (m .here))) ∙ e))
 
 -- ## A first opening
@@ -115,24 +116,20 @@ module _ {copies : ℕ} {p : Places} {s : Chip} (ready : Ready copies p s) where
   opening-taking :
       (j : ℕ) → firstOpening copies p s .answer ≡ Stopped (NoSpare j)
       → (taking .answer .work ≡ Stopped (NoSpare j)) × (firstOpening copies p s .after ≡ taking .after)
-  unfolding firstOpening
   opening-taking j e = go (takes .either)
     where
-      r : Run Work
-      r = untried taking giving taking .answer .work
-
       mapped-out : MapEnded (mapping (taking .after) .answer) → mapping (taking .after) .answer ≡ Stopped (NoSpare j) → ⊥
       mapped-out (put d) q = let z : _≡_ {A = ℕ} 0 1 = cc in omega arith
       mapped-out (failed a d) q = let z : _≡_ {A = ℕ} 0 1 = cc in omega arith
 
       go :
           (taking .answer .work ≡ Done) ⊎ ((i : ℕ) × (taking .answer .work ≡ Stopped (NoSpare i)))
-          → (taking .answer .work ≡ Stopped (NoSpare j)) × ((r andThen mapping) .after ≡ taking .after)
+          → (taking .answer .work ≡ Stopped (NoSpare j)) × (firstOpening copies p s .after ≡ taking .after)
       go (inl d) =
           let maps = maps-laws (ready-kept ready (within-kept (takes .within))) (taking .answer .addresses) (takes .all d .many) in
-          absurd (mapped-out (maps .ended) (sym (ap (λ (w : Run Work). w .answer) (done-then r mapping d)) ∙ e))
+          absurd (mapped-out (maps .ended) (sym (ap (λ (w : Run Work). w .answer) (opening-on copies p s d)) ∙ e))
       go (inr (i, d)) =
-          let h = stopped-then r mapping _ d in
+          let h = opening-ends copies p s d in
           (sym (ap (λ (w : Run Work). w .answer) h) ∙ e, ap (λ (w : Run Work). w .after) h)
 
   pub opening-full :
@@ -159,28 +156,20 @@ pub data OpenFull (copies : ℕ) (p : Places) (s : Chip) (k : ℕ) : Type 0 wher
       → OpenFull copies p s k
 
 module _ (copies : ℕ) (p : Places) (s : Chip) where
-  open-first : unopened copies p s ≡ true → openRun copies p s ≡ firstOpening copies p s endingIn Good 0 (pos 0)
-  unfolding openRun
-  open-first e = rw e
-
-  open-again : unopened copies p s ≡ false → openRun copies p s ≡ onGood (chipVerdict copies p s) (λ c lag. store copies p c s endingIn Good c lag) s
-  unfolding openRun
-  open-again e = rw e
-
   module _ (k : ℕ) (e : openRun copies p s .answer ≡ Refused (NoSpare k)) where
     full-first : unopened copies p s ≡ true → OpenFull copies p s k
     full-first q =
-        let run = open-first q in
+        let run = open-first copies p s q in
         let stops = ending-stopped k 0 (pos 0) _ (sym (ap (λ (r : Run Verdict). r .answer) run) ∙ e) in
         let f = opening-full (unopened-ready copies p s q) k stops in
         first (takeFrom (slots copies) 0 (wholeArea p) s .answer .addresses) (sym (f .0)) (rw run (f .1))
 
     full-again : unopened copies p s ≡ false → (v : Verdict) → chipVerdict copies p s ≡ v → OpenFull copies p s k
     full-again q (Refused why) h =
-        let run = open-again q ∙ ap (λ (v : Verdict). onGood v (λ c lag. store copies p c s endingIn Good c lag) s) h in
+        let run = open-again copies p s q ∙ reopening-refused copies p s why h in
         absurd (verdict-room {k = k} copies p s (h ∙ sym (ap (λ (r : Run Verdict). r .answer) run) ∙ e))
     full-again q (Good c lag) h =
-        let run = open-again q ∙ ap (λ (v : Verdict). onGood v (λ c lag. store copies p c s endingIn Good c lag) s) h in
+        let run = open-again copies p s q ∙ reopening-good copies p s c lag h in
         let read = verdict-good copies p s h in
         let stops = ending-stopped k c lag _ (sym (ap (λ (r : Run Verdict). r .answer) run) ∙ e) in
         again c lag (read .0) (rw run (store-full copies p c s k (read .1 .ready) (read .1 .sound) stops))
@@ -190,5 +179,6 @@ module _ (copies : ℕ) (p : Places) (s : Chip) where
     run-full false q = full-again q (chipVerdict copies p s) refl
 
   pub open-full : openOf copies p s .says .code ≡ 8 → OpenFull copies p s (openOf copies p s .says .place)
-  unfolding openOf
-  open-full e = run-full _ (code-eight (openRun copies p s .answer) (length (openRun copies p s .log)) (openRun copies p s .tried) e) (unopened copies p s) refl
+  open-full =
+      rw (open-is copies p s)
+      (λ e. run-full _ (code-eight (openRun copies p s .answer) (length (openRun copies p s .log)) (openRun copies p s .tried) e) (unopened copies p s) refl)

@@ -19,7 +19,8 @@ use Rattle.promises.specs.Runs.{stepsUpTo, stepsAfter, dataWrites, dataB
 use Rattle.counter.proofs.Moves.{roomOf}
 use Rattle.counter.proofs.Exact.{Exact, exact-verdict}
 use Rattle.counter.proofs.GoodVerdicts.{not-good}
-use Rattle.promises.proofs.DoorRuns.{step-last, open-laws}
+use Rattle.counter.proofs.DoorViews.{step-last}
+use Rattle.promises.proofs.DoorRuns.{open-laws}
 use Rattle.promises.proofs.TurnsAndCells.{run-exact, step-good}
 use Rattle.promises.proofs.ExactSteps.{StepBound, step-bound}
 use Rattle.promises.proofs.RunSteps.{steps-next}

@@ -3,9 +3,8 @@
 --   Made, steps-made          they were all made, or the last one made was refused; those before it were good
 --   steps-within              they write cells of map and area alone, and change nothing else
 use Prim.Native.Nat.{ℕ, zero, suc, _≤_}
-use mathlib.Core.Path.{_≡_, refl}
+use mathlib.Core.Path.{_≡_, refl, ap}
 use mathlib.Core.List.{List, [], _∷_}
-use lib.ListN.{length}
 use Rattle.cells.specs.Chip.{Chip}
 use Rattle.cells.specs.Run.{Run}
 use Rattle.cells.specs.Log.{Within}
@@ -14,11 +13,11 @@ use Rattle.counter.specs.declared.places.Places.{Places}
 use Rattle.counter.specs.declared.verdict.Answer.{Answer}
 use Rattle.counter.specs.declared.verdict.Verdict.{Verdict}
 use Rattle.counter.specs.declared.verdict.Verdict.the-variants.{Good, Refused}
-use Rattle.counter.specs.Verdict.{answerOf, outcomeOf}
+use Rattle.counter.specs.Verdict.{outcomeOf}
 use Rattle.counter.specs.Doors.{stepRun}
 use Rattle.promises.specs.Runs.{onward, stepsUpTo}
 use Rattle.counter.proofs.Ready.{Own}
-use Rattle.promises.proofs.Codes.{refusal-code}
+use Rattle.counter.proofs.DoorAnswers.{good-says, refused-code}
 use Rattle.promises.proofs.DoorRuns.{step-laws}
 
 -- a step, and the others as it ended
@@ -37,9 +36,8 @@ pub data Made : ℕ → List Answer → Type 0 where
 onward-made :
     {n : ℕ} (v : Verdict) (r : Run Verdict) (rest : Run (List Answer)) → r .answer ≡ v → Made n (rest .answer)
     → Made (suc n) (onward v r rest .answer)
-unfolding answerOf
-onward-made (Good c lag) r rest e made = good {a = outcomeOf r .says} (rw e refl) made
-onward-made (Refused why) r rest e made = refused {a = outcomeOf r .says} (rw e (refusal-code why (length (r .log)) (r .tried)))
+onward-made (Good c lag) r rest e made = good {a = outcomeOf r .says} (ap (λ (a : Answer). a .code) (good-says r e)) made
+onward-made (Refused why) r rest e made = refused {a = outcomeOf r .says} (refused-code r e)
 
 pub steps-made : (n copies : ℕ) (p : Places) (s : Chip) → Made n (stepsUpTo n copies p s .answer)
 unfolding stepsUpTo

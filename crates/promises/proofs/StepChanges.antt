@@ -14,6 +14,7 @@ use Rattle.counter.specs.Slots.{slots}
 use Rattle.counter.specs.Store.{slotCode}
 use Rattle.counter.proofs.Moves.{change}
 use Rattle.counter.proofs.Stores.{changes}
+use Rattle.counter.proofs.WorkSteps.{changes-none, changes-next}
 use Rattle.counter.proofs.NextStores.{changedNibble, step-changed, step-stays}
 
 module _ (c : ℕ) (small : c + 1 < 2 ^ 32) where
@@ -33,13 +34,12 @@ module _ (c : ℕ) (small : c + 1 < 2 ^ 32) where
 
   -- the changes among the n slots from k on are the numbers of the changed nibble among them
   changes-are : (n k : ℕ) → changes n k (slotCode c) (slotCode (c + 1)) + (k + 7 - changedNibble c) / 8 ≡ (k + n + 7 - changedNibble c) / 8
-  unfolding changes
-  changes-are zero k = rw (zero-add, add-zero)
+  changes-are zero k = rw (changes-none, zero-add, add-zero)
   changes-are (suc n) k =
       let h = changes-are n (k + 1) in
       let h′ = change-is k (ℕ-discrete (k % 8) (changedNibble c)) in
       let e : k + suc n ≡ k + 1 + n = omega arith in
-      rw e (omega arith)
+      rw (e, changes-next) (omega arith)
 
   pub step-changes : (copies : ℕ) → changes (slots copies) 0 (slotCode c) (slotCode (c + 1)) ≡ copies
   step-changes copies = let h = changes-are (slots copies) 0 in let h′ = step-nibble-small c small in omega arith

@@ -17,14 +17,15 @@ use Rattle.counter.specs.declared.verdict.Verdict.{Verdict}
 use Rattle.counter.specs.declared.verdict.Verdict.the-variants.{Good, Refused}
 use Rattle.counter.specs.declared.verdict.Work.{Work}
 use Rattle.counter.specs.declared.verdict.Work.the-variants.{Done, Stopped}
-use Rattle.counter.specs.Verdict.{answer, outcomeOf, answerOf, ending, _andThen_}
+use Rattle.counter.specs.Verdict.{answer, outcomeOf, ending, _andThen_}
 use Rattle.counter.specs.Reading.{verdictOf}
 use Rattle.counter.specs.Store.{store}
 use Rattle.counter.specs.Doors.{lastCount, chipVerdict, openRun, stepRun, openOf, stepOf, readOf}
-use Rattle.promises.proofs.Codes.{code-good}
+use Rattle.counter.proofs.DoorAnswers.{code-good, good-says, open-is, step-is, read-good}
 use Rattle.counter.proofs.Exact.{Exact, exact-reads}
 use Rattle.counter.proofs.GoodVerdicts.{not-good, VerdictGood, verdict-good}
-use Rattle.promises.proofs.DoorRuns.{Comes, Comes.untouched, Comes.spareless, Comes.mapless, Comes.good, open-laws, step-laws, step-refused, step-last, step-on}
+use Rattle.counter.proofs.DoorViews.{step-refused, step-last, step-on}
+use Rattle.promises.proofs.DoorRuns.{Comes, Comes.untouched, Comes.spareless, Comes.mapless, Comes.good, open-laws, step-laws}
 
 -- a good call leaves its count exactly
 pub run-exact :
@@ -39,32 +40,28 @@ run-exact {copies} {p} {s} {c} r (good d lag e small exact) g = let q : d ≡ c 
 read-exact :
     {copies : ℕ} {p : Places} {c : ℕ} {s : Chip} → 1 ≤ copies → c < 2 ^ 32 → Exact copies p c s
     → readOf copies p (s .cells) ≡ answer 0 c (pos 0) 0 0 0
-unfolding readOf answerOf
-read-exact one small exact = rw (exact-reads exact one small)
+read-exact {copies} {p} {c} {s} one small exact = read-good copies p (s .cells) (exact-reads exact one small)
 
 -- what a good call says is its count
 run-reads :
     {copies : ℕ} {p : Places} {s : Chip} (r : Run Verdict) → 1 ≤ copies → Comes copies p s r
     → outcomeOf r .says .code ≡ 0
     → readOf copies p (r .after .cells) ≡ answer 0 (outcomeOf r .says .count) (pos 0) 0 0 0
-unfolding answerOf
 run-reads r one comes e =
     let g = code-good (r .answer) (length (r .log)) (r .tried) e in
     let x = run-exact r comes (g .2) in
-    rw (g .2) (read-exact one (x .0) (x .1))
+    rw (good-says r (g .2)) (read-exact one (x .0) (x .1))
 
 module _ (copies : ℕ) (p : Places) (s : Chip) where
   pub open-reads :
       1 ≤ copies → openOf copies p s .says .code ≡ 0
       → readOf copies p (openOf copies p s .leaves .cells) ≡ answer 0 (openOf copies p s .says .count) (pos 0) 0 0 0
-  unfolding openOf
-  open-reads one e = run-reads (openRun copies p s) one (open-laws copies p s .comes) e
+  open-reads one = rw (open-is copies p s) (run-reads (openRun copies p s) one (open-laws copies p s .comes))
 
   pub step-reads :
       1 ≤ copies → stepOf copies p s .says .code ≡ 0
       → readOf copies p (stepOf copies p s .leaves .cells) ≡ answer 0 (stepOf copies p s .says .count) (pos 0) 0 0 0
-  unfolding stepOf
-  step-reads one e = run-reads (stepRun copies p s) one (step-laws copies p s .comes) e
+  step-reads one = rw (step-is copies p s) (run-reads (stepRun copies p s) one (step-laws copies p s .comes))
 
 -- what a good step read, answered and left
 pub record StepGood (copies : ℕ) (p : Places) (s : Chip) : Type 0 where
@@ -108,8 +105,7 @@ module _ (copies : ℕ) (p : Places) (s : Chip) {d : ℕ} {other : ℤ} (g : ste
 
 module _ (copies : ℕ) (p : Places) (s : Chip) (e : stepOf copies p s .says .code ≡ 0) where
   code-step : StepGood copies p s
-  code-step = let g = code-good (stepRun copies p s .answer) (length (stepRun copies p s .log)) (stepRun copies p s .tried) (unfold stepOf in e) in step-good copies p s (g .2)
+  code-step = let g = code-good (stepRun copies p s .answer) (length (stepRun copies p s .log)) (stepRun copies p s .tried) (rw (step-is copies p s) at e) in step-good copies p s (g .2)
 
   pub step-counts : (readOf copies p (s .cells) .code ≡ 0) × (stepOf copies p s .says .count ≡ readOf copies p (s .cells) .count + 1) × (stepOf copies p s .says .lag ≡ readOf copies p (s .cells) .lag)
-  unfolding stepOf readOf answerOf
-  step-counts = rw (code-step .reads, code-step .answers) (refl, refl, refl)
+  step-counts = rw (step-is copies p s, good-says (stepRun copies p s) (code-step .answers), read-good copies p (s .cells) (code-step .reads)) (refl, refl, refl)

@@ -10,7 +10,6 @@ use native.Mathlib.Omega.{arith}
 use lib.Dec.{eqb}
 use lib.IntN.{pos}
 use lib.ListN.{length}
-use borrow.Author.Tests.{eqb-true}
 use Rattle.code.proofs.ChangeLaws.{step-nibble-small}
 use Rattle.cells.specs.Chip.{Chip, lifeAt, pick}
 use Rattle.cells.specs.Log.{askedOf}
@@ -18,12 +17,13 @@ use Rattle.cells.proofs.Logs.{asked-none, asked-append, within-life}
 use Rattle.counter.specs.declared.places.Places.{Places}
 use Rattle.counter.specs.Slots.{slots}
 use Rattle.counter.specs.Map.{mapIn}
-use Rattle.counter.specs.Verdict.{answer, answerOf, outcomeOf}
+use Rattle.counter.specs.Verdict.{answer, outcomeOf}
 use Rattle.counter.specs.Doors.{lastCount, openRun, stepRun, openOf}
-use Rattle.counter.specs.Places.{livesGood}
 use Rattle.promises.specs.Runs.{stepsUpTo, opened, cellOf, counting, writesOf, Fresh, Worn, Lasts}
 use Rattle.counter.proofs.Ready.{pointers, Ready, inside-cell}
+use Rattle.counter.proofs.Fitted.{tests-ready}
 use Rattle.counter.proofs.Exact.{Exact}
+use Rattle.counter.proofs.DoorAnswers.{good-says, open-is}
 use Rattle.promises.proofs.DoorRuns.{open-laws, step-laws}
 use Rattle.counter.proofs.NextStores.{changedNibble}
 use Rattle.promises.proofs.ExactSteps.{stepWrites, StepCalm, step-calm}
@@ -40,8 +40,7 @@ step-length (suc n) copy pointer c = ap suc (step-length n (copy + 1) pointer c)
 pub step-says :
     {copies : ℕ} {p : Places} {c : ℕ} {s : Chip} → StepCalm copies p c s
     → outcomeOf (stepRun copies p s) .says ≡ answer 0 (c + 1) (pos 0) 0 copies 0
-unfolding answerOf
-step-says calm = rw (calm .answers, calm .tried, calm .log, step-length)
+step-says {copies} {p} {c} {s} calm = rw (good-says (stepRun copies p s) (calm .answers), calm .tried, calm .log, step-length)
 
 pub record StepsCalm (n copies : ℕ) (p : Places) (c : ℕ) (s : Chip) : Type 0 where
   pub answers : stepsUpTo n copies p s .answer ≡ counting n copies c
@@ -103,14 +102,13 @@ writes-most n k = let h = div-le-self n (16 ^ k) in omega arith
 
 module _ {n copies : ℕ} {p : Places} {s : Chip} (fresh : Fresh n copies p s) where
   fresh-ready : Ready copies p s
-  fresh-ready = record { paired = eqb-true _ _ (unfold livesGood in fresh .lives); long = fresh .long; good = fresh .places }
+  fresh-ready = tests-ready (fresh .lives) (fresh .long) (fresh .places)
 
   opening : OpenCalm copies p s
   opening = open-calm (record { ready = fresh-ready; blank = fresh .blank; alive = λ a l. let h = fresh .lasting a l in omega arith })
 
   opens : openOf copies p s .says ≡ answer 0 0 (pos 0) 0 (length (openRun copies p s .log)) 0
-  unfolding openOf answerOf
-  opens = rw (opening .answers, opening .tried)
+  opens = rw (open-is copies p s, good-says (openRun copies p s) (opening .answers), opening .tried)
 
   -- the opening takes one good write from each slot's cell, and leaves n
   abbrev slotCell : ℕ → ℕ

@@ -1,0 +1,99 @@
+-- What a door answers, by how its work ended.
+--   code-good                 a call of code 0 is good
+--   code-eight                a call of code 8 found no spare for the slot that is its place
+--   good-says                 a good call answers its count and lag, with code 0 and the writes and spares it took
+--   refused-code              a refused call answers another code than 0
+--   spareless-code, mapless-code  8 where it found no spare, 9 where a map byte failed
+--   open-is, step-is          the outcomes of open and step are those of their work
+--   read-good                 what a good read answers
+use Prim.Native.Nat.{ℕ, _≤_}
+use mathlib.Core.Path.{_≡_, refl, ap}
+use mathlib.Core.List.{List}
+use native.Mathlib.Omega.{arith}
+use lib.IntN.{ℤ}
+use lib.ListN.{length}
+use Rattle.cells.specs.Chip.{Chip}
+use Rattle.cells.specs.Run.{Run}
+use Rattle.counter.specs.declared.places.Places.{Places}
+use Rattle.counter.specs.declared.verdict.Refusal.{Refusal}
+use Rattle.counter.specs.declared.verdict.Refusal.the-variants.{BadLength, BadPlaces, NoMark, UnsoundMap, BadCopy, TwoCodes, LostNibble, Apart, LastCount, NoSpare, MapByte}
+use Rattle.counter.specs.declared.verdict.Verdict.{Verdict}
+use Rattle.counter.specs.declared.verdict.Verdict.the-variants.{Good, Refused}
+use Rattle.counter.specs.Verdict.{answer, refusalOf, answerOf, outcomeOf}
+use Rattle.counter.specs.Reading.{verdictOf}
+use Rattle.counter.specs.Doors.{openRun, stepRun, openOf, stepOf, readOf}
+
+-- ## The numbers of the ways a call can end
+
+-- a refusal has another code than 0
+refusal-code : (why : Refusal) (writes tried : ℕ) → 1 ≤ refusalOf why writes tried .code
+unfolding refusalOf
+refusal-code BadLength w t = omega arith
+refusal-code BadPlaces w t = omega arith
+refusal-code NoMark w t = omega arith
+refusal-code UnsoundMap w t = omega arith
+refusal-code BadCopy w t = omega arith
+refusal-code (TwoCodes n) w t = omega arith
+refusal-code (LostNibble n) w t = omega arith
+refusal-code (Apart lag) w t = omega arith
+refusal-code LastCount w t = omega arith
+refusal-code (NoSpare k) w t = omega arith
+refusal-code (MapByte a) w t = omega arith
+
+pub code-good : (v : Verdict) (writes tried : ℕ) → answerOf v writes tried .code ≡ 0 → (c : ℕ) × (lag : ℤ) × (v ≡ Good c lag)
+unfolding answerOf
+code-good (Good c lag) w t e = (c, lag, refl)
+code-good (Refused why) w t e = let h = refusal-code why w t in absurd (omega arith)
+
+refusal-eight : (why : Refusal) (writes tried : ℕ) → refusalOf why writes tried .code ≡ 8 → why ≡ NoSpare (refusalOf why writes tried .place)
+unfolding refusalOf
+refusal-eight BadLength w t e = absurd (omega arith)
+refusal-eight BadPlaces w t e = absurd (omega arith)
+refusal-eight NoMark w t e = absurd (omega arith)
+refusal-eight UnsoundMap w t e = absurd (omega arith)
+refusal-eight BadCopy w t e = absurd (omega arith)
+refusal-eight (TwoCodes n) w t e = absurd (omega arith)
+refusal-eight (LostNibble n) w t e = absurd (omega arith)
+refusal-eight (Apart lag) w t e = absurd (omega arith)
+refusal-eight LastCount w t e = absurd (omega arith)
+refusal-eight (NoSpare k) w t e = refl
+refusal-eight (MapByte a) w t e = absurd (omega arith)
+
+pub code-eight : (v : Verdict) (writes tried : ℕ) → answerOf v writes tried .code ≡ 8 → v ≡ Refused (NoSpare (answerOf v writes tried .place))
+unfolding answerOf
+code-eight (Good c lag) w t e = absurd (omega arith)
+code-eight (Refused why) w t e = ap Refused (refusal-eight why w t e)
+
+-- what a call answers whose work ended so
+module _ (r : Run Verdict) where
+  pub good-says : {c : ℕ} {lag : ℤ} → r .answer ≡ Good c lag → outcomeOf r .says ≡ answer 0 c lag 0 (length (r .log)) (r .tried)
+  unfolding answerOf
+  good-says e = rw e
+
+  pub refused-code : {why : Refusal} → r .answer ≡ Refused why → 1 ≤ outcomeOf r .says .code
+  unfolding answerOf
+  refused-code {why} e = rw e (refusal-code why (length (r .log)) (r .tried))
+
+  pub spareless-code : {k : ℕ} → r .answer ≡ Refused (NoSpare k) → outcomeOf r .says .code ≡ 8
+  unfolding answerOf refusalOf
+  spareless-code e = rw e
+
+  pub mapless-code : {a : ℕ} → r .answer ≡ Refused (MapByte a) → outcomeOf r .says .code ≡ 9
+  unfolding answerOf refusalOf
+  mapless-code e = rw e
+
+-- ## The doors
+
+module _ (copies : ℕ) (p : Places) where
+  pub read-good : {c : ℕ} {lag : ℤ} (cells : List ℕ) → verdictOf copies p cells ≡ Good c lag → readOf copies p cells ≡ answer 0 c lag 0 0 0
+  unfolding readOf answerOf
+  read-good cells e = rw e
+
+  module _ (s : Chip) where
+    pub open-is : openOf copies p s ≡ outcomeOf (openRun copies p s)
+    unfolding openOf
+    open-is = refl
+
+    pub step-is : stepOf copies p s ≡ outcomeOf (stepRun copies p s)
+    unfolding stepOf
+    step-is = refl
