@@ -1,7 +1,7 @@
 // Whether the pointers of a map are sound (document 01, "The map").
 ghost use mathlib.Core.Path.{_≡_};
 ghost use mathlib.Core.Bool.{true, not};
-ghost use Prim.Native.Nat.{ℕ, _+_, _-_, _*_, _^_, _%_, _≤_, _<_};
+ghost use Prim.Native.Nat.{ℕ, _+_, _-_, _*_, _/_, _^_, _%_, _≤_, _<_};
 ghost use lib.Bits.{bitOr};
 ghost use lib.Count.{ones};
 ghost use lib.Dec.{eqb};
@@ -107,37 +107,37 @@ fn in_order(map: &[u8], p: Places) -> bool
     true
 }
 
-// A word of bits with the bit of an address set, the addresses being taken modulo 64.
-fn with_bit(bits: u64, a: usize) -> u64
-    ensures { λ r. ⌜ r ≡ bitOr bits (2 ^ (a % 64)) ⌝ }
+// A word of bits with the bit of an address set: the address modulo 64, moved on by `skew` for each 64 cells below it.
+fn with_bit(bits: u64, a: usize, skew: usize) -> u64
+    requires { ⌜ (a < 65536) × (skew ≤ 1) ⌝ }
+    ensures { λ r. ⌜ r ≡ bitOr bits (2 ^ ((a + skew * (a / 64)) % 64)) ⌝ }
 {
-    bits | (1u64 << (a % 64))
+    bits | (1u64 << ((a + skew * (a / 64)) % 64))
 }
 
 // The bits of the pointers of the nibbles from one up to another, in both copies: as many as there are pointers only
-// if no two are the same modulo 64.
-fn bits_of(map: &[u8], from: usize, to: usize) -> u64
-    requires { ⌜ (length (now map) ≡ 24) × (from ≤ to) × (to ≤ 8) ⌝ }
-    ensures { λ r. ⌜ (ones r ≤ 2 * (to - from)) × (ones r ≡ 2 * (to - from) → Apart (Among from to) (λ k. pointerOf (now (map .entry)) k % 64)) ⌝ }
+// if no two have the same bit.
+fn bits_of(map: &[u8], from: usize, to: usize, skew: usize) -> u64
+    requires { ⌜ (length (now map) ≡ 24) × (from ≤ to) × (to ≤ 8) × (skew ≤ 1) ⌝ }
+    ensures { λ r. ⌜ (ones r ≤ 2 * (to - from)) × (ones r ≡ 2 * (to - from) → Apart (Among from to) (λ k. (pointerOf (now (map .entry)) k + skew * (pointerOf (now (map .entry)) k / 64)) % 64)) ⌝ }
 {
     let mut bits = 0u64;
     let mut n = from;
     while n < to {
-        bits = with_bit(bits, pointer_of(map, n));
-        bits = with_bit(bits, pointer_of(map, 8 + n));
+        bits = with_bit(bits, pointer_of(map, n), skew);
+        bits = with_bit(bits, pointer_of(map, 8 + n), skew);
         n += 1;
     }
     bits
 }
 
-// Whether no two pointers of one kind are the same modulo 64: where they are in order, the quick way to see that all
-// differ.
-fn spread(map: &[u8]) -> bool
-    requires { ⌜ length (now map) ≡ 24 ⌝ }
+// Whether no two pointers of one kind have the same bit: where they are in order, the quick way to see that all differ.
+fn spread(map: &[u8], skew: usize) -> bool
+    requires { ⌜ (length (now map) ≡ 24) × (skew ≤ 1) ⌝ }
     ensures { λ r. ⌜ (r ≡ true → (Apart (Among 0 3) (pointerOf (now (map .entry)))) × (Apart (Among 3 8) (pointerOf (now (map .entry))))) ⌝ }
 {
-    let low = u64::count_ones(bits_of(map, 0, 3));
-    let high = u64::count_ones(bits_of(map, 3, 8));
+    let low = u64::count_ones(bits_of(map, 0, 3, skew));
+    let high = u64::count_ones(bits_of(map, 3, 8, skew));
     low + high == 16
 }
 
@@ -173,8 +173,9 @@ fn all_differ(map: &[u8]) -> bool
     true
 }
 
-// Whether the pointers are sound, by looking at each clause that is not known to hold. It has two callers, so that the
-// compiler keeps it apart from what is usual.
+// Whether the pointers are sound, by looking at each clause that is not known to hold. Pointers that are the same modulo
+// 64 have different bits, as a rule, where each 64 cells move the bits on by one. It has two callers, so that the compiler
+// keeps it apart from what is usual.
 pub(crate) fn plainly_sound(map: &[u8], p: Places, ordered: bool) -> bool
     requires { ⌜ (length (now map) ≡ 24) × (p .end < 4096) × (ordered ≡ true → every 16 (λ k. mayTry p (kindOf k) (gapTo k p (pointerOf (now map))) (pointerOf (now map) k)) ≡ true) ⌝ }
     ensures { λ r. ⌜ r ≡ sound two p (pointerOf (now (map .entry))) ⌝ }
@@ -183,6 +184,9 @@ pub(crate) fn plainly_sound(map: &[u8], p: Places, ordered: bool) -> bool
         if !in_order(map, p) {
             return false;
         }
+    }
+    if spread(map, 1) {
+        return true;
     }
     all_differ(map)
 }
@@ -196,7 +200,7 @@ pub(crate) fn is_sound(map: &[u8], p: Places) -> bool
     let border = low_border(map, p);
     let ordered = highs_below(map, p, border);
     if ordered {
-        if spread(map) {
+        if spread(map, 0) {
             return true;
         }
     }

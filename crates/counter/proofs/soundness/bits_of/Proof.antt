@@ -1,5 +1,5 @@
 -- `soundness::bits_of` meets its contract: the slots passed are marked.
-use Prim.Native.Nat.{ℕ, _+_, _-_, _*_, _%_, _≤_, _<_}
+use Prim.Native.Nat.{ℕ, _+_, _-_, _*_, _/_, _%_, _≤_, _<_}
 use mathlib.Core.Path.{_≡_}
 use mathlib.Core.Logic.{_⊎_, inl, inr}
 use borrow.Author.Needs.{needs}
@@ -12,15 +12,15 @@ use Rattle.counter.proofs.soundness.bits_of.Statement.{statement}
 use Rattle.counter.proofs.soundness.bits_of.Tie as tie
 
 abbrev Inv-loop : tie.InvT-loop
-Inv-loop map from to bits₀ n₀ bits n =
+Inv-loop map from to skew bits₀ n₀ bits n =
     record {
       least : from ≤ n;
       most : n ≤ to;
-      marks : Marks (Among from n) (2 * (n - from)) (λ k. pointerOf map k % 64) bits;
+      marks : Marks (Among from n) (2 * (n - from)) (λ k. (pointerOf map k + skew * (pointerOf map k / 64)) % 64) bits;
     }
 
 abbrev μ-loop : tie.MeasureT-loop
-μ-loop map from to bits₀ n₀ bits n = to - n
+μ-loop map from to skew bits₀ n₀ bits n = to - n
 
 -- a slot of one nibble more
 passed : (from n k : ℕ) → n < 8 → Among from (n + 1) k → (Among from n k ⊎ (k ≡ n)) ⊎ (k ≡ 8 + n)
@@ -43,7 +43,7 @@ pointer-of-requires : tie.Need-pointer-of-requires Inv-loop μ-loop
 pointer-of-requires c κs = search needs
 
 with-bit-requires : tie.Need-with-bit-requires Inv-loop μ-loop
-with-bit-requires c κs = search needs
+with-bit-requires c κs = (c .pointer-of .ensures .1, c .before .before .before .before .pre .3)
 
 add-pointer-of : tie.Need-add-pointer-of Inv-loop μ-loop
 add-pointer-of c = search needs
@@ -52,7 +52,7 @@ pointer-of-requires-2 : tie.Need-pointer-of-requires-2 Inv-loop μ-loop
 pointer-of-requires-2 c κs = search needs
 
 with-bit-requires-2 : tie.Need-with-bit-requires-2 Inv-loop μ-loop
-with-bit-requires-2 c κs = search needs
+with-bit-requires-2 c κs = (c .pointer-of2 .ensures .1, c .before .before .before .before .before .before .pre .3)
 
 add-n : tie.Need-add-n Inv-loop μ-loop
 add-n c = search needs

@@ -9,7 +9,7 @@ use native.Mathlib.Omega.{arith}
 use Rattle.counter.specs.Slots.{two, every}
 use Rattle.counter.specs.Map.{pointerOf}
 use Rattle.counter.proofs.RangeTests.{never}
-use Rattle.counter.proofs.SoundByTries.{follows, sound-tries, sound-differ}
+use Rattle.counter.proofs.SoundByTries.{follows, sound-tries, sound-differ, spread-sound}
 use Rattle.counter.proofs.soundness.plainly_sound.Statement.{statement}
 use Rattle.counter.proofs.soundness.plainly_sound.Tie as tie
 
@@ -24,8 +24,8 @@ returns c =
     let z : _≡_ {A = ℕ} 0 1 = cc (sound-tries two _ _ s, c .before .in-order .ensures, not-true (c .before .in-order .result) (c .if2 .taken)) in
     omega arith))
 
-all-differ-requires : tie.Need-all-differ-requires
-all-differ-requires c κs = search needs
+spread-requires : tie.Need-spread-requires
+spread-requires c κs = search needs
 
 -- each could be tried: it was seen, or known
 tries : (c : tie.Joined1) → let s = c .before .before in every 16 (follows two (s .args .p) (pointerOf (s .args .map .now))) ≡ true
@@ -34,7 +34,15 @@ tries c =
     (c .if1 .came)
 
 returns-2 : tie.Need-returns-2
-returns-2 c = c .all-differ .ensures ∙ sound-differ two _ _ (tries (c .before))
+returns-2 c = let apart = c .before .spread .ensures (c .if3 .taken) in sym (spread-sound _ _ (tries (c .before .before)) (apart .0) (apart .1))
+
+all-differ-requires : tie.Need-all-differ-requires
+all-differ-requires c κs = search needs
+
+returns-3 : tie.Need-returns-3
+returns-3 c = c .all-differ .ensures ∙ sound-differ two _ _ (tries (c .before .before .before))
 
 pub plainly-sound-spec : {M : Type 1} → statement M
-plainly-sound-spec = tie.close (tie.spec in-order-requires returns all-differ-requires returns-2)
+plainly-sound-spec =
+    tie.close
+    (tie.spec in-order-requires returns spread-requires returns-2 all-differ-requires returns-3)

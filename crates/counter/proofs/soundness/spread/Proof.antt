@@ -1,6 +1,6 @@
 -- `soundness::spread` meets its contract: sixteen bits are six of Low pointers and ten of High ones.
 use mathlib.Core.Path.{_≡_, ap}
-use Prim.Native.Nat.{_+_, _%_}
+use Prim.Native.Nat.{ℕ, _+_, _*_, _/_, _%_}
 use borrow.Author.Needs.{needs}
 use borrow.Author.Tests.{eqb-true}
 use native.Mathlib.Omega.{arith}
@@ -21,9 +21,10 @@ returns : tie.Need-returns
 returns c e =
     let low = c .before .bits-of .ensures in
     let high = c .bits-of2 .ensures in
+    let skew = c .before .before .before .args .skew in
     let all : ones (c .before .bits-of .result) + ones (c .bits-of2 .result) ≡ 16 = eqb-true _ _ e in (
-      λ i j o o′ d q. low .1 (omega (arith, all, low .0, high .0)) i j o o′ d (ap (λ a. a % 64) q),
-      λ i j o o′ d q. high .1 (omega (arith, all, low .0, high .0)) i j o o′ d (ap (λ a. a % 64) q),
+      λ i j o o′ d q. low .1 (omega (arith, all, low .0, high .0)) i j o o′ d (ap (λ (a : ℕ). (a + skew * (a / 64)) % 64) q),
+      λ i j o o′ d q. high .1 (omega (arith, all, low .0, high .0)) i j o o′ d (ap (λ (a : ℕ). (a + skew * (a / 64)) % 64) q),
     )
 
 pub spread-spec : {M : Type 1} → statement M
