@@ -84,6 +84,19 @@ static void row(const char *name, figures sum, uint64_t calls)
     fflush(stdout);
 }
 
+/* Cells 65 to 127 are worn, so that Low cells are 128 and those from 64 down: 128 and 64 are the same modulo 64. */
+static void worn_row(void)
+{
+    figures stepped = {0};
+    lay_blank();
+    for (size_t i = 65; i <= 127; i++)
+        theirs.lives[i] = ours.lives[i] = 0;
+    open_both(setting_a);
+    for (int done = 0; done < 16; done++)
+        add(&stepped, step_both(setting_a));
+    row("step, setting A, pointers alike modulo 64", stepped, 16);
+}
+
 static void setting_a_rows(uint64_t steps)
 {
     figures stepped = {0}, read = {0};
@@ -105,6 +118,7 @@ static void setting_a_rows(uint64_t steps)
     open_both(setting_a);
     theirs.lives[128] = ours.lives[128] = 0;
     row("step, setting A, one cell moved", step_both(setting_a), 1);
+    worn_row();
 }
 
 /* The mean of the first sixteen steps, which touch the cells of two nibbles. */
