@@ -1,0 +1,78 @@
+#!/bin/sh
+# tests/wrong.sh: tries the wrong programs of crates/counter/must-fail/quick, edits in the form that rt has, and fails unless the
+# prover refuses each because a fact fails. rt proves a whole crate again for each edit; here one is tried over what was proved
+# just before, so that only what it touches is proved again. `tests/wrong.sh whole` tries each from nothing, as rt does.
+set -eu
+cd "$(dirname "$0")/.."
+root=$PWD
+kind=${1:-quick}
+work=$(mktemp -d)
+trap 'rm -rf "$work"' EXIT
+
+# apply EDIT FOLDER: a 'file:' line holds for the 'old:' and 'new:' pairs after it, and an old text stands in the file once.
+apply() {
+    while IFS= read -r line || [ -n "$line" ]; do
+        case $line in
+        'file: '*) file=$2/${line#file: } ;;
+        'old: '*) old=${line#old: } ;;
+        'new: '*)
+            OLD=$old NEW=${line#new: } awk '
+                { text = text $0 "\n" }
+                END {
+                    old = ENVIRON["OLD"]
+                    at = index(text, old)
+                    rest = substr(text, at + length(old))
+                    if (!at || index(rest, old)) exit 1
+                    printf "%s%s%s", substr(text, 1, at - 1), ENVIRON["NEW"], rest
+                }' "$file" >"$file.edited" || return 1
+            mv "$file.edited" "$file"
+            ;;
+        esac
+    done <"$1"
+}
+
+# try EDIT: leaves a line in NAME.line, and NAME.refused where the prover refused the edit at a fact. Where a proof only no
+# longer fits the code, its first error says that something 'has no' part of some name.
+try() {
+    name=$(basename "$1" .edit)
+    place=$work/$name
+    mkdir -p "$place/target/inc"
+    cp -R crates.txt crates "$place"
+    ln -s "$root/target/rlib" "$root/target/stamp" "$place/target"
+    [ "$kind" = whole ] || cp -R target/inc/counter "$place/target/inc"
+    if ! apply "$1" "$place/crates/counter"; then
+        echo "wrong: $name: BAD EDIT: an old text does not stand in its file once" >"$place.line"
+        return
+    fi
+    status=0
+    (cd "$place" && rt dev counter) >"$place.said" 2>&1 || status=$?
+    first=$(grep -m 1 ': error: ' "$place.said" || true)
+    at=${first#"$place"/crates/counter/}
+    case "$status $first" in
+    '0 '*) echo "wrong: $name: NOT REFUSED" ;;
+    '1 '*' has no '*) echo "wrong: $name: refused, but for no fact: $first" ;;
+    '1 '?*)
+        : >"$place.refused"
+        echo "wrong: $name: refused, as it must be (first at ${at%%: error: *})"
+        ;;
+    *) tail -n 5 "$place.said"; echo "wrong: $name: BAD EDIT: it did not reach the prover" ;;
+    esac >"$place.line"
+    rm -rf "$place"
+}
+
+# What stands is proved, so that a refusal is the edit's.
+rt dev counter >"$work/said" 2>&1 || { cat "$work/said"; echo 'wrong: the counter is not proved as it stands'; exit 1; }
+
+set -- crates/counter/must-fail/quick/*.edit
+tried=$#
+while [ $# -gt 0 ]; do
+    try "$1" &
+    [ $# -lt 2 ] || try "$2" &
+    wait
+    for edit in "$1" ${2:+"$2"}; do cat "$work/$(basename "$edit" .edit).line"; done
+    shift
+    [ $# -eq 0 ] || shift
+done
+refused=$(find "$work" -name '*.refused' | wc -l)
+echo "wrong: $refused of $tried wrong programs refused"
+[ "$refused" -eq "$tried" ]
