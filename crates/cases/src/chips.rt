@@ -1,71 +1,130 @@
-// The chips of the cases: lent cells and lives, made blank, opened, set and worn.
+// The chips of the cases: made blank, opened, set and worn, and what the doors make of them. A chip goes by value, which
+// costs the check of a case far less than lent cells and lives do.
+ghost use Prim.Native.Nat.{_≤_};
 use counter::doors;
 use counter::verdict::Answer;
 
-pub const BLANK: u8 = 0xFF;
+// The cells of the largest chip.
+const LARGEST: usize = 512;
 
-pub const AMPLE: u32 = 1000;
+const BLANK: u8 = 0xFF;
 
-// The map's place and the area's first cell in every case that does not say another.
-const MAP: usize = 1;
+const AMPLE: u32 = 1000;
 
-const START: usize = 25;
+pub const MAP: usize = 1;
 
-// Makes every cell blank.
-fn clear(image: &mut [u8]) {
-    let mut i = 0;
-    while i < image.len() {
-        image[i] = BLANK;
-        i += 1;
+pub const START: usize = 25;
+
+// A chip and its setting. The cells and lives above `size` are not the chip's: no door sees them.
+pub struct Chip {
+    pub image: [u8; 512],
+    pub lives: [u32; 512],
+    pub size: usize,
+    pub map: usize,
+    pub start: usize,
+    pub end: usize,
+}
+
+// What a door leaves: its answer, and the chip as it is then.
+pub struct Done {
+    pub answer: Answer,
+    pub chip: Chip,
+}
+
+pub(crate) fn blank(size: usize, map: usize, start: usize, end: usize) -> Chip {
+    let image = [BLANK; 512];
+    let lives = [AMPLE; 512];
+    Chip {
+        image,
+        lives,
+        size,
+        map,
+        start,
+        end,
     }
 }
 
-// Makes every life ample.
-fn renew(lives: &mut [u32]) {
-    let mut i = 0;
-    while i < lives.len() {
-        lives[i] = AMPLE;
-        i += 1;
+pub(crate) fn set(mut chip: Chip, at: usize, byte: u8) -> Chip {
+    if at < LARGEST {
+        chip.image[at] = byte;
     }
-}
-
-pub(crate) fn blank(image: &mut [u8], lives: &mut [u32]) {
-    clear(image);
-    renew(lives);
-}
-
-pub(crate) fn set(image: &mut [u8], at: usize, byte: u8) {
-    if at < image.len() {
-        image[at] = byte;
-    }
+    chip
 }
 
 // Sets a nibble's cells in the two copies.
-pub(crate) fn set_both(image: &mut [u8], first: usize, second: usize, byte: u8) {
-    set(image, first, byte);
-    set(image, second, byte);
+pub(crate) fn set_both(chip: Chip, first: usize, second: usize, byte: u8) -> Chip {
+    set(set(chip, first, byte), second, byte)
 }
 
-pub(crate) fn wear(lives: &mut [u32], at: usize) {
-    if at < lives.len() {
-        lives[at] = 0;
+pub(crate) fn wear(mut chip: Chip, at: usize) -> Chip {
+    if at < LARGEST {
+        chip.lives[at] = 0;
     }
+    chip
 }
 
-pub(crate) fn open(image: &mut [u8], lives: &mut [u32], end: usize) -> Answer {
-    doors::open(image, lives, MAP, START, end)
+// No chip has more cells than the largest.
+fn at_most_largest(size: usize) -> usize
+    ensures { λ r. ⌜ r ≤ 512 ⌝ }
+{
+    if size < LARGEST {
+        return size;
+    }
+    LARGEST
 }
 
-pub(crate) fn read(image: &[u8], end: usize) -> Answer {
-    doors::read(image, MAP, START, end)
+pub(crate) fn open(mut chip: Chip) -> Done {
+    let mut image = chip.image;
+    let mut lives = chip.lives;
+    let n = at_most_largest(chip.size);
+    let answer = doors::open(
+        &mut image[..n],
+        &mut lives[..n],
+        chip.map,
+        chip.start,
+        chip.end,
+    );
+    chip.image = image;
+    chip.lives = lives;
+    Done { answer, chip }
 }
 
-pub(crate) fn step(image: &mut [u8], lives: &mut [u32], end: usize) -> Answer {
-    doors::step(image, lives, MAP, START, end)
+pub(crate) fn step(mut chip: Chip) -> Done {
+    let mut image = chip.image;
+    let mut lives = chip.lives;
+    let n = at_most_largest(chip.size);
+    let answer = doors::step(
+        &mut image[..n],
+        &mut lives[..n],
+        chip.map,
+        chip.start,
+        chip.end,
+    );
+    chip.image = image;
+    chip.lives = lives;
+    Done { answer, chip }
 }
 
-// A blank chip, opened.
-pub(crate) fn opened(image: &mut [u8], lives: &mut [u32], end: usize) {
-    blank(image, lives);
-    open(image, lives, end);
+pub(crate) fn read(chip: Chip) -> Answer {
+    let image = chip.image;
+    let n = at_most_largest(chip.size);
+    doors::read(&image[..n], chip.map, chip.start, chip.end)
+}
+
+// A blank chip opened, with the map's place and the area's first cell of every case that does not say another.
+pub(crate) fn opened(size: usize, end: usize) -> Chip {
+    let done = open(blank(size, MAP, START, end));
+    done.chip
+}
+
+fn wide(byte: u8) -> u64 {
+    byte as u64
+}
+
+// A cell's byte.
+pub(crate) fn cell(chip: Chip, at: usize) -> u64 {
+    if at < LARGEST {
+        return wide(chip.image[at]);
+    }
+    0
 }

@@ -1,4 +1,7 @@
 // A line for each case: its name, the answer's six numbers and, where they say more, some cells.
+use super::chips::Chip;
+use super::chips::blank;
+use super::chips::cell;
 use super::chips::open;
 use super::chips::read;
 use super::chips::step;
@@ -17,58 +20,62 @@ fn print_signed(key: &[u8], value: i64) {
     io::write_all(STDOUT_FILENO, &digits[..end]);
 }
 
-fn print_answer(name: &[u8], answer: Answer) {
-    io::write_all(STDOUT_FILENO, name);
+// What the call found.
+fn print_finding(answer: Answer) {
     print_number(b": code=", answer.code as u64);
     print_number(b" count=", answer.count as u64);
     print_signed(b" lag=", answer.lag);
     print_number(b" place=", answer.place as u64);
+}
+
+// What it took.
+fn print_work(answer: Answer) {
     print_number(b" writes=", answer.writes as u64);
     print_number(b" tried=", answer.tried as u64);
 }
 
-fn wide(byte: u8) -> u64 {
-    byte as u64
+fn print_answer(name: &[u8], answer: Answer) {
+    io::write_all(STDOUT_FILENO, name);
+    print_finding(answer);
+    print_work(answer);
 }
 
-fn print_cell(image: &[u8], at: usize) {
-    if at < image.len() {
+// In place of a cell, where a line shows fewer than two: no chip has a cell 512.
+pub const NONE: usize = 512;
+
+fn print_cell(chip: Chip, at: usize) {
+    if at < NONE {
         print_number(b" cell ", at as u64);
-        print_number(b"=", wide(image[at]));
+        print_number(b"=", cell(chip, at));
     }
 }
 
-fn end_line() {
+fn say(name: &[u8], answer: Answer, chip: Chip, first: usize, second: usize) {
+    print_answer(name, answer);
+    print_cell(chip, first);
+    print_cell(chip, second);
     io::write_all(STDOUT_FILENO, b"\n");
 }
 
-pub(crate) fn say(name: &[u8], answer: Answer) {
-    print_answer(name, answer);
-    end_line();
+// Calls of the doors, and their lines, with the cells to show. Each hands on the chip that the door leaves.
+pub(crate) fn say_open(name: &[u8], chip: Chip, first: usize, second: usize) -> Chip {
+    let done = open(chip);
+    say(name, done.answer, done.chip, first, second);
+    done.chip
 }
 
-pub(crate) fn say_cell(name: &[u8], answer: Answer, image: &[u8], at: usize) {
-    print_answer(name, answer);
-    print_cell(image, at);
-    end_line();
+pub(crate) fn say_step(name: &[u8], chip: Chip, first: usize, second: usize) -> Chip {
+    let done = step(chip);
+    say(name, done.answer, done.chip, first, second);
+    done.chip
 }
 
-pub(crate) fn say_cells(name: &[u8], answer: Answer, image: &[u8], first: usize, second: usize) {
-    print_answer(name, answer);
-    print_cell(image, first);
-    print_cell(image, second);
-    end_line();
+// A read leaves the chip as it is.
+pub(crate) fn say_read(name: &[u8], chip: Chip) {
+    say(name, read(chip), chip, NONE, NONE);
 }
 
-// Calls of the doors, and their lines.
-pub(crate) fn say_open(name: &[u8], image: &mut [u8], lives: &mut [u32], end: usize) {
-    say(name, open(image, lives, end));
-}
-
-pub(crate) fn say_read(name: &[u8], image: &[u8], end: usize) {
-    say(name, read(image, end));
-}
-
-pub(crate) fn say_step(name: &[u8], image: &mut [u8], lives: &mut [u32], end: usize) {
-    say(name, step(image, lives, end));
+// Opens a blank chip.
+pub(crate) fn say_blank(name: &[u8], size: usize, map: usize, start: usize, end: usize) {
+    say_open(name, blank(size, map, start, end), NONE, NONE);
 }

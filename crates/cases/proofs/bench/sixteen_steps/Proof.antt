@@ -1,20 +1,18 @@
--- `sixteen_steps` meets its contract: image and lives keep their lengths.
-use mathlib.Core.Path.{_≡_, refl}
-use Prim.Native.Nat.{_-_, _≤_}
+-- `sixteen_steps` meets its contract: it ends, after sixteen turns.
+use Prim.Native.Nat.{_-_}
 use native.Mathlib.Omega.{arith}
 use borrow.Author.Needs.{needs}
-use lib.ListN.{length}
 use Rattle.cases.proofs.bench.sixteen_steps.Statement.{statement}
 use Rattle.cases.proofs.bench.sixteen_steps.Tie as tie
 
 abbrev Inv-loop : tie.InvT-loop
-Inv-loop image₀ lives₀ counter₀ image lives counter = (length image ≡ length image₀) × (length lives ≡ length lives₀)
+Inv-loop chip₀ counter₀ chip counter = Unit {0}
 
 abbrev μ-loop : tie.MeasureT-loop
-μ-loop image₀ lives₀ counter₀ image lives counter = 16 - counter
+μ-loop chip₀ counter₀ chip counter = 16 - counter
 
 loop-holds : tie.Need-loop-holds Inv-loop μ-loop
-loop-holds c = (refl, refl)
+loop-holds c = tt
 
 one-step-requires : tie.Need-one-step-requires Inv-loop μ-loop
 one-step-requires c κs = search needs
@@ -26,13 +24,7 @@ loop-less : tie.Need-loop-less Inv-loop μ-loop
 loop-less c = omega arith
 
 loop-again : tie.Need-loop-again Inv-loop μ-loop
-loop-again c = omega arith
-
-same-length : tie.Need-same-length Inv-loop μ-loop
-same-length c = omega arith
-
-same-length-2 : tie.Need-same-length-2 Inv-loop μ-loop
-same-length-2 c = omega arith
+loop-again c = tt
 
 returns : tie.Need-returns Inv-loop μ-loop
 returns c = search needs
@@ -48,6 +40,4 @@ sixteen-steps-spec =
     add-counter
     loop-less
     loop-again
-    same-length
-    same-length-2
     returns)

@@ -1,0 +1,44 @@
+-- `open` meets its contract: the first n cells and lives are n long.
+use mathlib.Core.Path.{sym}
+use borrow.Author.Needs.{needs}
+use lib.Seq.{length-take-le}
+use Rattle.cases.proofs.Sizes.{image-holds, lives-hold}
+use Rattle.cases.proofs.chips.open.Statement.{statement}
+use Rattle.cases.proofs.chips.open.Tie as tie
+
+at-most-largest-requires : tie.Need-at-most-largest-requires
+at-most-largest-requires c κs = search needs
+
+array-borrow-prefix-image : tie.Need-array-borrow-prefix-image
+array-borrow-prefix-image c =
+    let start = c .before .before .before in
+    image-holds (start .args .chip) (start .good .0) (c .at-most-largest .ensures)
+
+slice-aggregate-open : tie.Need-slice-aggregate-open
+slice-aggregate-open c = sym (length-take-le _ _ (array-borrow-prefix-image (c .before)))
+
+array-borrow-prefix-lives : tie.Need-array-borrow-prefix-lives
+array-borrow-prefix-lives c =
+    let start = c .before .before .before .before in
+    lives-hold (start .args .chip) (start .good .0) (c .before .at-most-largest .ensures)
+
+slice-aggregate-open-2 : tie.Need-slice-aggregate-open-2
+slice-aggregate-open-2 c = sym (length-take-le _ _ (array-borrow-prefix-lives (c .before)))
+
+open-requires : tie.Need-open-requires
+open-requires c κs = search needs
+
+returns : tie.Need-returns
+returns c = search needs
+
+pub open-spec : {M : Type 1} → statement M
+open-spec =
+    tie.close
+    (tie.spec
+    at-most-largest-requires
+    array-borrow-prefix-image
+    slice-aggregate-open
+    array-borrow-prefix-lives
+    slice-aggregate-open-2
+    open-requires
+    returns)

@@ -1,0 +1,44 @@
+-- `step` meets its contract: the first n cells and lives are n long.
+use mathlib.Core.Path.{sym}
+use borrow.Author.Needs.{needs}
+use lib.Seq.{length-take-le}
+use Rattle.cases.proofs.Sizes.{image-holds, lives-hold}
+use Rattle.cases.proofs.chips.step.Statement.{statement}
+use Rattle.cases.proofs.chips.step.Tie as tie
+
+at-most-largest-requires : tie.Need-at-most-largest-requires
+at-most-largest-requires c κs = search needs
+
+array-borrow-prefix-image : tie.Need-array-borrow-prefix-image
+array-borrow-prefix-image c =
+    let start = c .before .before .before in
+    image-holds (start .args .chip) (start .good .0) (c .at-most-largest .ensures)
+
+slice-aggregate-step : tie.Need-slice-aggregate-step
+slice-aggregate-step c = sym (length-take-le _ _ (array-borrow-prefix-image (c .before)))
+
+array-borrow-prefix-lives : tie.Need-array-borrow-prefix-lives
+array-borrow-prefix-lives c =
+    let start = c .before .before .before .before in
+    lives-hold (start .args .chip) (start .good .0) (c .before .at-most-largest .ensures)
+
+slice-aggregate-step-2 : tie.Need-slice-aggregate-step-2
+slice-aggregate-step-2 c = sym (length-take-le _ _ (array-borrow-prefix-lives (c .before)))
+
+step-requires : tie.Need-step-requires
+step-requires c κs = search needs
+
+returns : tie.Need-returns
+returns c = search needs
+
+pub step-spec : {M : Type 1} → statement M
+step-spec =
+    tie.close
+    (tie.spec
+    at-most-largest-requires
+    array-borrow-prefix-image
+    slice-aggregate-step
+    array-borrow-prefix-lives
+    slice-aggregate-step-2
+    step-requires
+    returns)
