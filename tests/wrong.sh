@@ -4,10 +4,10 @@
 # just before, so that only what it touches is proved again. `tests/wrong.sh whole` tries each from nothing, as rt does.
 set -eu
 cd "$(dirname "$0")/.."
-root=$PWD
 kind=${1:-quick}
 work=$(mktemp -d)
 trap 'rm -rf "$work"' EXIT
+stands=$work/stands
 
 # apply EDIT FOLDER: a 'file:' line holds for the 'old:' and 'new:' pairs after it, and an old text stands in the file once.
 apply() {
@@ -38,8 +38,8 @@ try() {
     place=$work/$name
     mkdir -p "$place/target/inc"
     cp -R crates.txt crates "$place"
-    ln -s "$root/target/rlib" "$root/target/stamp" "$place/target"
-    [ "$kind" = whole ] || cp -R target/inc/counter "$place/target/inc"
+    ln -s "$stands/target/rlib" "$stands/target/stamp" "$place/target"
+    [ "$kind" = whole ] || cp -R "$stands/target/inc/counter" "$place/target/inc"
     if ! apply "$1" "$place/crates/counter"; then
         echo "wrong: $name: BAD EDIT: an old text does not stand in its file once" >"$place.line"
         return
@@ -60,8 +60,10 @@ try() {
     rm -rf "$place"
 }
 
-# What stands is proved, so that a refusal is the edit's.
-rt dev counter >"$work/said" 2>&1 || { cat "$work/said"; echo 'wrong: the counter is not proved as it stands'; exit 1; }
+# What stands is proved from nothing, in a folder of its own, so that a refusal is the edit's.
+mkdir "$stands"
+cp -R crates.txt crates "$stands"
+(cd "$stands" && rt dev counter) >"$work/said" 2>&1 || { cat "$work/said"; echo 'wrong: the counter is not proved as it stands'; exit 1; }
 
 set -- crates/counter/must-fail/quick/*.edit
 tried=$#
