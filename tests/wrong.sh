@@ -1,7 +1,7 @@
 #!/bin/sh
 # tests/wrong.sh: tries the wrong programs of crates/counter/must-fail/quick, edits in the form that rt has, and fails unless the
-# prover refuses each because a fact fails. rt proves a whole crate again for each edit; here one is tried over what was proved
-# just before, so that only what it touches is proved again. `tests/wrong.sh whole` tries each from nothing, as rt does.
+# prover refuses each. rt proves a whole crate again for each edit; here one is tried over what was proved just before, so that
+# only what it touches is proved again. `tests/wrong.sh whole` tries each from nothing, as rt does.
 set -eu
 cd "$(dirname "$0")/.."
 kind=${1:-quick}
@@ -31,8 +31,9 @@ apply() {
     done <"$1"
 }
 
-# try EDIT: leaves a line in NAME.line, and NAME.refused where the prover refused the edit at a fact. Where a proof only no
-# longer fits the code, its first error says that something 'has no' part of some name.
+# try EDIT: leaves a line in NAME.line, and NAME.refused where the prover refused the edit. Where the first error says that something
+# 'has no' part of some name, a proof no longer fits the code, and the refusal does not count. That is the usual sign and not the
+# only one: whether a fact failed is for a reader of the first error.
 try() {
     name=$(basename "$1" .edit)
     place=$work/$name
