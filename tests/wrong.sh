@@ -1,7 +1,7 @@
 #!/bin/sh
-# tests/wrong.sh: tries the wrong programs of crates/counter/must-fail/quick, edits in the form that rt has, and fails unless the
-# prover refuses each. rt proves a whole crate again for each edit; here one is tried over what was proved just before, so that
-# only what it touches is proved again. `tests/wrong.sh whole` tries each from nothing, as rt does.
+# tests/wrong.sh: tries the wrong programs of crates/counter/wrong, edits in the form that rt has, and fails unless the prover
+# refuses each. rt proves a whole crate again for each edit; here one is tried over what was proved just before, so that only what it
+# touches is proved again. `tests/wrong.sh whole` tries each from nothing, as rt does.
 set -eu
 cd "$(dirname "$0")/.."
 kind=${1:-quick}
@@ -66,7 +66,7 @@ mkdir "$stands"
 cp -R crates.txt crates "$stands"
 (cd "$stands" && rt dev counter) >"$work/said" 2>&1 || { cat "$work/said"; echo 'wrong: the counter is not proved as it stands'; exit 1; }
 
-set -- crates/counter/must-fail/quick/*.edit
+set -- crates/counter/wrong/*.edit
 tried=$#
 while [ $# -gt 0 ]; do
     try "$1" &

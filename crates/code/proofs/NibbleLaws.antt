@@ -9,12 +9,11 @@
 --   word-more           the word of the nibbles from k - 1 on, by that of the nibbles from k on
 --   word-of-nibbles     the word of a word's nibbles is that word
 --   nibble-zero         the nibbles of 0
---   word-nibble         the nibbles of a word that was made of nibbles
 --   laid-over           a nibble laid over n others: Laid
 use mathlib.Core.Path.{_≡_, refl, sym, ap, _∙_}
 use mathlib.Core.List.{List, [], _∷_}
 use Prim.Native.Nat.{ℕ, zero, suc, _+_, _-_, _*_, _/_, _%_, _^_, _≤_, _<_}
-use native.Mathlib.Nat.{not-suc-le-zero, pow-suc, mul-suc, one-le-pow, pow-le-pow-right, lt-of-lt-of-le, mod-lt, mod-eq-of-lt, mod-one, div-one, div-eq-of-lt, div-div-eq-div-mul, zero-div, mul-comm, mul-assoc, mul-le-mul-right, mul-add-div-right, mul-add-mod-self-right}
+use native.Mathlib.Nat.{not-suc-le-zero, pow-suc, mul-suc, one-le-pow, pow-le-pow-right, lt-of-lt-of-le, mod-lt, mod-eq-of-lt, mod-one, div-one, div-eq-of-lt, div-div-eq-div-mul, zero-div, mul-assoc, mul-le-mul-right, mul-add-div-right, mul-add-mod-self-right}
 use native.Mathlib.Numerals.{sub-one}
 use native.Mathlib.Omega.{arith}
 use lib.Arith.{mod-mul, digits-div}
@@ -93,18 +92,6 @@ word-of-nibbles w h = word-from w 0 8 ∙ ap (λ (x : ℕ). x % 16 ^ 8) (div-one
 pub nibble-zero : (k : ℕ) → nibbleOf 0 k ≡ 0
 unfolding nibbleOf
 nibble-zero k = rw zero-div
-
--- the nibbles of a word that was made of nibbles
-pub word-nibble : (ns : List ℕ) (k : ℕ) → k < length ns → nibbleOf (wordOf ns) k ≡ getD ns k 0 % 16
-unfolding nibbleOf wordOf
-word-nibble [] k l = absurd (omega arith)
-word-nibble (n ∷ ns) zero l = let e : (n % 16 + 16 * wordOf ns) / 1 % 16 ≡ n % 16 = omega arith in e
-word-nibble (n ∷ ns) (suc k) l =
-    let above : (n % 16 + 16 * wordOf ns) / 16 ≡ wordOf ns = omega arith in
-    ap (λ (x : ℕ). (n % 16 + 16 * wordOf ns) / x % 16) (pow-suc 16 k ∙ mul-comm (16 ^ k) 16)
-    ∙ ap (λ (x : ℕ). x % 16) (sym (div-div-eq-div-mul (n % 16 + 16 * wordOf ns) 16 (16 ^ k)))
-    ∙ ap (λ (x : ℕ). x / 16 ^ k % 16) above
-    ∙ word-nibble ns k (omega arith)
 
 -- a nibble d laid over the n nibbles of a word w gives v
 pub record Laid (w d n v : ℕ) : Type 0 where

@@ -13,7 +13,7 @@ use lib.Pow.{pow-pos}
 use lib.Bits.{bitOr, bitXor, or-step, or-shr, or-zero-r, or-add-and, and-le-l, and-le-r, xor-zero-l}
 use lib.Count.{ones, ones-step}
 use Rattle.code.proofs.XorLaws.{xor-back}
-use Rattle.counter.specs.Slots.{Apart}
+use Rattle.counter.specs.Inside.{Apart}
 
 pub or-left : (a b : ℕ) → a ≤ bitOr a b
 or-left a b = let sum = or-add-and a b in let h = and-le-r a b in omega arith

@@ -24,7 +24,6 @@ use Rattle.counter.specs.declared.verdict.Verdict.the-variants.{Good, Re
 use Rattle.counter.specs.declared.verdict.Refusal.{Refusal}
 use Rattle.counter.specs.declared.verdict.Refusal.the-variants.{BadLength, LastCount}
 use Rattle.counter.specs.declared.standing.Standing.the-variants.{Unfit, Unmarked, Marked}
-use Rattle.counter.specs.Standing.{standingOf}
 use Rattle.counter.specs.Places.{livesGood, fitted}
 use Rattle.counter.specs.Map.{mapIn, marked, pointerOf, sound}
 use Rattle.counter.specs.Verdict.{outcome, outcomeOf, refusalOf, answerOf, ending, _endingIn_}
@@ -37,6 +36,7 @@ use Rattle.counter.proofs.Ready.{Ready}
 use Rattle.counter.proofs.Fitted.{fitted-ready, ready-fitted}
 use Rattle.counter.proofs.GoodVerdicts.{verdict-good}
 use Rattle.counter.specs.Doors.{lastCount, chipVerdict, unopened, reopening, beginning, openRun, stepping, stepRun}
+use Rattle.counter.specs.Inside.{standingOf}
 
 -- of storing that ends a call
 pub outcome-ending : (r : Run Work) {v : Seen Work} → v ≡ view r → (x : Verdict)

@@ -28,7 +28,8 @@ use Rattle.counter.specs.Slots.{two, slots}
 use Rattle.counter.specs.Places.{fitted}
 use Rattle.counter.specs.Map.{sound}
 use Rattle.counter.specs.Verdict.{_andThen_}
-use Rattle.counter.specs.Store.{slotCode, storeSlot, storeFrom, store, Holds}
+use Rattle.counter.specs.Store.{slotCode, storeSlot, storeFrom, store}
+use Rattle.counter.specs.Inside.{Holds}
 use Rattle.counter.proofs.SoundPointers.{Sound, test-sound}
 use Rattle.counter.proofs.Ready.{pointers, dataOf, Ready, ready-kept}
 use Rattle.counter.proofs.Moves.{change, Moves, slot-there, slot-laws}

@@ -39,11 +39,12 @@ use Rattle.counter.specs.declared.verdict.Work.the-variants.{Done, Stopp
 use Rattle.counter.specs.declared.verdict.Refusal.{Refusal}
 use Rattle.counter.specs.declared.verdict.Refusal.the-variants.{NoSpare, MapByte}
 use Rattle.counter.specs.Slots.{two, kindOf}
-use Rattle.counter.specs.Map.{offsetIn, offsetOf, markBytes, reachable, listed}
+use Rattle.counter.specs.Map.{offsetIn, offsetOf, markBytes, reachable}
 use Rattle.counter.specs.Spares.{wholeArea, narrow, nextOf, sparesOf}
 use Rattle.counter.specs.Verdict.{_andThen_}
 use Rattle.counter.specs.Store.{trySpares, putPointer, mapped}
-use Rattle.counter.specs.Opening.{Taken, taken, takeFrom, pointerRow, putPointers, putMark, untried, firstOpening}
+use Rattle.counter.specs.Opening.{Taken, taken, takeFrom, putPointers, putMark, untried, firstOpening}
+use Rattle.counter.specs.Inside.{listed, pointerRow}
 use Rattle.counter.proofs.SoundPointers.{sound-none, reach-test}
 use Rattle.counter.proofs.Gaps.{Free, between-none}
 use Rattle.counter.proofs.Ready.{Ready, ready-placed}

@@ -23,7 +23,8 @@ use Rattle.counter.specs.Slots.{kindOf}
 use Rattle.counter.specs.Map.{markBytes, offsetIn, offsetOf, pointerBytes}
 use Rattle.counter.specs.Verdict.{_andThen_}
 use Rattle.counter.specs.Store.{putPointer, mapped}
-use Rattle.counter.specs.Opening.{pointerRow, putPointers, putMark}
+use Rattle.counter.specs.Opening.{putPointers, putMark}
+use Rattle.counter.specs.Inside.{pointerRow}
 use Rattle.counter.proofs.Offsets.{kind-low, kind-high, bytesOf, bytes-length, offset-first, offset-next}
 
 -- ## A row put

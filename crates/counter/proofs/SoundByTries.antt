@@ -15,9 +15,10 @@ use borrow.Author.Tests.{eqb-false, ne-eqb, not-true}
 use Rattle.counter.specs.declared.map.Kind.{Kind}
 use Rattle.counter.specs.declared.map.Kind.the-variants.{High, Low}
 use Rattle.counter.specs.declared.places.Places.{Places}
-use Rattle.counter.specs.Slots.{two, slots, kindOf, every, Among, Apart}
+use Rattle.counter.specs.Slots.{two, slots, kindOf, every}
 use Rattle.counter.specs.Map.{sound}
 use Rattle.counter.specs.Spares.{gapTo, mayTry}
+use Rattle.counter.specs.Inside.{Among, Apart}
 use Rattle.counter.proofs.RangeTests.{every-all, all-every, never}
 use Rattle.counter.proofs.Offsets.{kind-low, kind-high}
 use Rattle.counter.proofs.SoundPointers.{Inside, Sound, test-sound, sound-test, below-apart}

@@ -20,8 +20,8 @@ use Rattle.counter.specs.declared.verdict.Verdict.the-variants.{Refused}
 use Rattle.counter.specs.Slots.{_and_}
 use Rattle.counter.specs.Places.{lengthGood, placesGood}
 use Rattle.counter.specs.Map.{mapIn, marked}
-use Rattle.counter.specs.Standing.{standingOf}
 use Rattle.counter.specs.Reading.{unless, guarded}
+use Rattle.counter.specs.Inside.{standingOf}
 
 -- the three tests, as a standing and as a verdict
 abbrev standing : Bool → Bool → Bool → Standing

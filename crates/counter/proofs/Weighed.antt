@@ -17,8 +17,9 @@ use Rattle.code.proofs.ReadingLaws.{entry-reading, entry-twofold, lost-zero}
 use Rattle.cells.specs.Chip.{pick}
 use Rattle.counter.specs.declared.reading.Fault.the-variants.{Twofold, LostInAll}
 use Rattle.counter.specs.declared.verdict.Refusal.the-variants.{TwoCodes, LostNibble}
-use Rattle.counter.specs.Slots.{two, every, some, lowest, _or_}
-use Rattle.counter.specs.Reading.{lent, nibbleIn, countIn, twofoldAt, lostAt, amiss, decide, onFound, weigh}
+use Rattle.counter.specs.Slots.{two, every, some, lowest}
+use Rattle.counter.specs.Reading.{lent, nibbleIn, countIn, twofoldAt, lostAt, decide, onFound, weigh}
+use Rattle.counter.specs.Inside.{amiss}
 use Rattle.counter.proofs.RangeTests.{every-same, some-same, lowest-same, tabulate-same}
 
 -- the nibble of a reading, by way of a test that it is not lost

@@ -3,8 +3,8 @@ pub mod Places
 pub mod Map
 pub mod Spares
 pub mod Verdict
-pub mod Standing
 pub mod Reading
 pub mod Store
 pub mod Opening
 pub mod Doors
+pub mod Inside

@@ -53,10 +53,6 @@ unfoldable pub pointerBytes : Kind → ℕ → List ℕ
 pointerBytes Low a = a % 256 ∷ a / 256 ∷ []
 pointerBytes High a = a ∷ []
 
--- the pointers, or the bytes, of all slots, given as a list
-abbrev pub listed : List ℕ → ℕ → ℕ
-listed values k = getD values k 0
-
 -- an address is in the area
 abbrev pub inArea : Places → ℕ → Bool
 inArea p a = leb (p .start) a and leb a (p .end)

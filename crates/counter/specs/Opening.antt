@@ -1,7 +1,7 @@
 -- A first opening (document 01, "Storing, opening, stepping"): addresses are taken as spares are tried, only
 -- those taken so far counting as pointers; then come the pointers, in order, and the mark.
 use Prim.Native.Nat.{ℕ, zero, suc, _+_}
-use mathlib.Core.List.{List, [], _∷_, _++_}
+use mathlib.Core.List.{List, [], _∷_}
 use Rattle.code.specs.Codes.{codeOf}
 use Rattle.cells.specs.declared.row.Found.{Found}
 use Rattle.cells.specs.declared.row.Found.the-variants.{At, Nowhere}
@@ -14,7 +14,7 @@ use Rattle.counter.specs.declared.verdict.Work.{Work}
 use Rattle.counter.specs.declared.verdict.Work.the-variants.{Done, Stopped}
 use Rattle.counter.specs.declared.verdict.Refusal.the-variants.{NoSpare}
 use Rattle.counter.specs.Slots.{slots, kindOf}
-use Rattle.counter.specs.Map.{pointerBytes, markBytes}
+use Rattle.counter.specs.Map.{markBytes}
 use Rattle.counter.specs.Spares.{wholeArea, narrow}
 use Rattle.counter.specs.Verdict.{_andThen_}
 use Rattle.counter.specs.Store.{trySpares, putPointer, mapped}
@@ -38,11 +38,6 @@ takeFrom zero k g s = still (taken Done []) s
 takeFrom (suc n) k g s =
     let r = trySpares k g (codeOf 0) s in
     r then onTaken (r .answer) k (λ a. takeFrom n (k + 1) (narrow (kindOf k) a g) (r .after)) (r .after)
-
--- the bytes that hold addresses as the pointers of the slots from k on
-unfoldable pub pointerRow : List ℕ → ℕ → List ℕ
-pointerRow [] k = []
-pointerRow (a ∷ rest) k = pointerBytes (kindOf k) a ++ pointerRow rest (k + 1)
 
 -- addresses put as the pointers of the slots from k on
 unfoldable pub putPointers : List ℕ → ℕ → Places → Chip → Run Work

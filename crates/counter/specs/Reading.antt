@@ -1,6 +1,5 @@
 -- Reading (document 01, "Reading" and the table of refusals).
-use Prim.Native.Nat.{ℕ, zero, suc, _+_, _-_, _*_, _<_}
-use mathlib.Core.Path.{_≡_}
+use Prim.Native.Nat.{ℕ, zero, suc, _+_, _-_, _*_}
 use mathlib.Core.Bool.{Bool, true, false}
 use mathlib.Core.List.{List}
 use lib.IntN.{ℤ, pos, negsuc, _-ℤ_}
@@ -8,30 +7,23 @@ use lib.ListN.{length, getD}
 use lib.Dec.{leb}
 use Rattle.code.specs.declared.reading.Reading.{Reading}
 use Rattle.code.specs.Readings.{readingOf, twofold, isLost, nibbleRead}
-use Rattle.code.specs.Entries.{readingAt, twofoldAt as twofoldEntry}
 use Rattle.code.specs.Gray.{countOf}
 use Rattle.code.specs.Nibbles.{wordOf}
 use Rattle.cells.specs.Chip.{pick}
 use Rattle.cells.specs.declared.row.Found.{Found}
 use Rattle.cells.specs.declared.row.Found.the-variants.{At, Nowhere}
 use Rattle.counter.specs.declared.places.Places.{Places}
-use Rattle.counter.specs.declared.reading.Fault.{Fault}
-use Rattle.counter.specs.declared.reading.Fault.the-variants.{Twofold, LostInAll}
 use Rattle.counter.specs.declared.verdict.Verdict.{Verdict}
 use Rattle.counter.specs.declared.verdict.Verdict.the-variants.{Good, Refused}
 use Rattle.counter.specs.declared.verdict.Refusal.{Refusal}
 use Rattle.counter.specs.declared.verdict.Refusal.the-variants.{BadLength, BadPlaces, NoMark, UnsoundMap, TwoCodes, LostNibble, Apart}
-use Rattle.counter.specs.Slots.{two, slots, every, some, lowest, tabulate, _and_, _or_}
-use Rattle.counter.specs.Places.{mapCells, lengthGood, placesGood}
+use Rattle.counter.specs.Slots.{every, some, lowest, tabulate}
+use Rattle.counter.specs.Places.{lengthGood, placesGood}
 use Rattle.counter.specs.Map.{mapIn, marked, pointerOf, sound}
 
 -- the byte at a slot's pointer
 abbrev pub dataAt : List ℕ → List ℕ → ℕ → ℕ
 dataAt cells map k = getD cells (pointerOf map k) 0
-
--- a whole map of two copies, all of whose pointers are cells of the image
-abbrev pub Reaches : List ℕ → List ℕ → Type 0
-Reaches cells map = (length map ≡ mapCells two) × ((k : ℕ) → k < slots two → pointerOf map k < length cells)
 
 -- nibble n of the lowest-numbered copy that has one, among so many copies from one on, given what each slot
 -- reads as; copies are counted from 0
@@ -68,11 +60,6 @@ twofoldAt copies byte n = some copies (λ copy. twofold (byte (8 * copy + n)))
 -- nibble n is lost in every copy
 abbrev pub lostAt : ℕ → (ℕ → Reading) → ℕ → Bool
 lostAt copies reading n = every copies (λ copy. isLost (reading (8 * copy + n)))
-
--- the same of a nibble whose two copies have these entries in the table of readings
-abbrev pub amiss : Fault → ℕ → ℕ → Bool
-amiss Twofold a b = twofoldEntry a or twofoldEntry b
-amiss LostInAll a b = isLost (readingAt a) and isLost (readingAt b)
 
 -- refused, unless the test holds
 abbrev pub unless : Bool → Refusal → Verdict → Verdict

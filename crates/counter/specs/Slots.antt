@@ -1,7 +1,6 @@
 -- Slots, and tests over a range of them. Slot k stands for nibble k % 8 of copy k / 8; a counter of so many
 -- copies has eight times as many. This delivery has two copies; every definition is over their number.
-use Prim.Native.Nat.{ℕ, zero, suc, _+_, _*_, _%_, _≤_, _<_}
-use mathlib.Core.Path.{_≡_}
+use Prim.Native.Nat.{ℕ, zero, suc, _+_, _*_, _%_}
 use mathlib.Core.Bool.{Bool, true, false}
 use mathlib.Core.List.{List, [], _∷_}
 use lib.Dec.{ltb}
@@ -53,11 +52,3 @@ lowest (suc n) k test = pick (test k) (At k) (lowest n (k + 1) test)
 unfoldable pub tabulate : ℕ → ℕ → (ℕ → ℕ) → List ℕ
 tabulate zero k f = []
 tabulate (suc n) k f = f k ∷ tabulate n (k + 1) f
-
--- slot k, in two copies, stands for one of the nibbles from one up to another
-abbrev pub Among : ℕ → ℕ → ℕ → Type 0
-Among from to k = (k < slots two) × (from ≤ k % 8) × (k % 8 < to)
-
--- no two of such numbers have the same value
-abbrev pub Apart : (ℕ → Type 0) → (ℕ → ℕ) → Type 0
-Apart Of value = (i j : ℕ) → Of i → Of j → (i ≡ j → ⊥) → value i ≡ value j → ⊥

@@ -1,7 +1,5 @@
 -- Storing a count (document 01, "Storing, opening, stepping").
-use Prim.Native.Nat.{ℕ, zero, suc, _+_, _%_, _<_}
-use mathlib.Core.Path.{_≡_}
-use mathlib.Core.List.{List}
+use Prim.Native.Nat.{ℕ, zero, suc, _+_, _%_}
 use Rattle.code.specs.Codes.{codeOf}
 use Rattle.code.specs.Gray.{grayOf}
 use Rattle.code.specs.Nibbles.{nibbleOf}
@@ -20,15 +18,10 @@ use Rattle.counter.specs.Slots.{slots, kindOf}
 use Rattle.counter.specs.Map.{mapIn, offsetOf, pointerOf, pointerBytes}
 use Rattle.counter.specs.Spares.{gapOf, wayOf, nextOf, sparesOf}
 use Rattle.counter.specs.Verdict.{_andThen_}
-use Rattle.counter.specs.Reading.{dataAt}
 
 -- the code that a slot holds when the count is c
 unfoldable pub slotCode : ℕ → ℕ → ℕ
 slotCode c k = codeOf (nibbleOf (grayOf c) (k % 8))
-
--- the cells of all slots hold their codes of c
-abbrev pub Holds : ℕ → Places → ℕ → List ℕ → Type 0
-Holds copies p c cells = (k : ℕ) → k < slots copies → dataAt cells (mapIn copies p cells) k ≡ slotCode c k
 
 -- a row of map bytes: done, or where a put failed
 unfoldable pub mapped : Found → Work

@@ -2,7 +2,7 @@
 // back").
 ghost use mathlib.Core.Path.{_≡_};
 ghost use Rattle.counter.specs.Slots.{two};
-ghost use Rattle.counter.specs.Standing.{standingOf};
+ghost use Rattle.counter.specs.Inside.{standingOf};
 use super::map::Map;
 use super::map::is_marked;
 use super::places::Places;

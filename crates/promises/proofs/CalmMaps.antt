@@ -21,7 +21,8 @@ use Rattle.counter.specs.Slots.{slots}
 use Rattle.counter.specs.Places.{mapCells}
 use Rattle.counter.specs.Map.{markBytes, offsetOf}
 use Rattle.counter.specs.Verdict.{_andThen_}
-use Rattle.counter.specs.Opening.{pointerRow, putPointers, putMark}
+use Rattle.counter.specs.Opening.{putPointers, putMark}
+use Rattle.counter.specs.Inside.{pointerRow}
 use Rattle.cells.proofs.AskedOnce.{asked-outside, Once, once-append, once-row}
 use Rattle.counter.proofs.Offsets.{offset-first, offset-most}
 use Rattle.counter.proofs.Ready.{Ready, InMap, ready-kept}

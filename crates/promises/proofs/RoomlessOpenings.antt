@@ -27,13 +27,13 @@ use Rattle.counter.specs.declared.verdict.Refusal.the-variants.{NoSpare}
 use Rattle.counter.specs.declared.verdict.Verdict.{Verdict}
 use Rattle.counter.specs.declared.verdict.Verdict.the-variants.{Good, Refused}
 use Rattle.counter.specs.Slots.{slots, kindOf}
-use Rattle.counter.specs.Map.{listed}
 use Rattle.counter.specs.Spares.{wholeArea, narrow}
 use Rattle.counter.specs.Verdict.{_andThen_}
 use Rattle.counter.specs.Reading.{verdictOf}
 use Rattle.counter.specs.Store.{slotCode, trySpares}
 use Rattle.counter.specs.Opening.{Taken, takeFrom, putPointers, putMark, firstOpening}
 use Rattle.counter.specs.Doors.{chipVerdict, unopened, openRun, openOf}
+use Rattle.counter.specs.Inside.{listed}
 use Rattle.counter.proofs.Gaps.{Between, between-none, between-more, Spare, spare-free}
 use Rattle.counter.proofs.Ready.{Ready, ready-kept}
 use Rattle.counter.proofs.Tries.{Missing, Landing, Trying, Trying.missing, Trying.landing, try-laws}

@@ -9,7 +9,7 @@ use denote.Ref.{now}
 use lib.ListN.{length, length-set}
 use Rattle.counter.specs.Slots.{kindOf}
 use Rattle.counter.specs.Map.{offsetIn, offsetOf}
-use Rattle.counter.specs.Opening.{pointerRow}
+use Rattle.counter.specs.Inside.{pointerRow}
 use Rattle.counter.proofs.Offsets.{kind-high, bytes-some, offset-first, offset-inside, low-inside, high-inside}
 use Rattle.counter.proofs.SoundPointers.{test-reach}
 use Rattle.counter.proofs.PointerRows.{laid, laid-none, laid-all, laid-low, laid-high}

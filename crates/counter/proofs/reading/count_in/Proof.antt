@@ -10,8 +10,8 @@ use Rattle.code.specs.Gray.{countOf}
 use Rattle.code.specs.Nibbles.{wordOf}
 use Rattle.code.proofs.Filled.{all-set}
 use Rattle.counter.specs.Slots.{two}
-use Rattle.counter.specs.Map.{listed}
 use Rattle.counter.specs.Reading.{nibbleIn, countIn}
+use Rattle.counter.specs.Inside.{listed}
 use Rattle.counter.proofs.RangeTests.{tabulate-filled}
 use Rattle.counter.proofs.Weighed.{nibble-two}
 use Rattle.counter.proofs.reading.count_in.Statement.{statement}

@@ -4,8 +4,8 @@ use mathlib.Core.Path.{_≡_, refl}
 use borrow.Author.Needs.{needs}
 use native.Mathlib.Omega.{arith}
 use lib.ListN.{length, length-set}
-use Rattle.counter.specs.Map.{listed}
 use Rattle.counter.specs.Reading.{dataAt}
+use Rattle.counter.specs.Inside.{listed}
 use Rattle.code.proofs.Filled.{all-set}
 use Rattle.counter.proofs.reading.data_of.Statement.{statement}
 use Rattle.counter.proofs.reading.data_of.Tie as tie

@@ -2,7 +2,7 @@
 use mathlib.Core.Path.{sym, ap, _∙_}
 use borrow.Author.Needs.{needs}
 use Rattle.counter.specs.declared.reading.Fault.{Fault}
-use Rattle.counter.specs.Reading.{amiss}
+use Rattle.counter.specs.Inside.{amiss}
 use Rattle.counter.proofs.reading.is_amiss.Statement.{statement}
 use Rattle.counter.proofs.reading.is_amiss.Tie as tie
 

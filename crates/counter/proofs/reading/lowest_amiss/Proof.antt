@@ -4,8 +4,7 @@ use mathlib.Core.Path.{_≡_, refl, sym, _∙_}
 use borrow.Author.Needs.{needs}
 use native.Mathlib.Omega.{arith}
 use Rattle.counter.specs.Slots.{lowest}
-use Rattle.counter.specs.Map.{listed}
-use Rattle.counter.specs.Reading.{amiss}
+use Rattle.counter.specs.Inside.{listed, amiss}
 use Rattle.counter.proofs.RangeTests.{lowest-here, lowest-on}
 use Rattle.counter.proofs.reading.lowest_amiss.Statement.{statement}
 use Rattle.counter.proofs.reading.lowest_amiss.Tie as tie

@@ -5,8 +5,8 @@ use Rattle.code.specs.Entries.{readingAt}
 use Rattle.counter.specs.declared.reading.Fault.the-variants.{Twofold, LostInAll}
 use Rattle.counter.specs.declared.verdict.Refusal.the-variants.{TwoCodes, LostNibble}
 use Rattle.counter.specs.Slots.{two, lowest}
-use Rattle.counter.specs.Map.{listed}
-use Rattle.counter.specs.Reading.{weigh, onFound, amiss, countIn, decide}
+use Rattle.counter.specs.Reading.{weigh, onFound, countIn, decide}
+use Rattle.counter.specs.Inside.{listed, amiss}
 use Rattle.counter.proofs.Weighed.{weigh-entries}
 use borrow.Author.Needs.{needs}
 use Rattle.counter.proofs.reading.weighed.Statement.{statement}

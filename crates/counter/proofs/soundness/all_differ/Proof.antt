@@ -7,7 +7,7 @@ use borrow.Author.Tests.{not-true, not-false}
 use native.Mathlib.Omega.{arith}
 use lib.Dec.{eqb}
 use Rattle.counter.specs.Slots.{every}
-use Rattle.counter.specs.Map.{listed}
+use Rattle.counter.specs.Inside.{listed}
 use Rattle.counter.proofs.RangeTests.{every-more, every-not, every-same}
 use Rattle.counter.proofs.soundness.all_differ.Statement.{statement}
 use Rattle.counter.proofs.soundness.all_differ.Tie as tie

@@ -5,8 +5,8 @@ use mathlib.Core.Logic.{_⊎_, inl, inr}
 use borrow.Author.Needs.{needs}
 use native.Mathlib.Decide.{decLt}
 use native.Mathlib.Omega.{arith}
-use Rattle.counter.specs.Slots.{Among}
 use Rattle.counter.specs.Map.{pointerOf}
+use Rattle.counter.specs.Inside.{Among}
 use Rattle.counter.proofs.BitMarks.{Marks, marks-none, marks-more, marks-same}
 use Rattle.counter.proofs.soundness.bits_of.Statement.{statement}
 use Rattle.counter.proofs.soundness.bits_of.Tie as tie

@@ -7,7 +7,7 @@ use borrow.Author.Tests.{eq-eqb, ne-eqb}
 use native.Mathlib.Omega.{arith}
 use lib.Dec.{eqb}
 use Rattle.counter.specs.Slots.{every}
-use Rattle.counter.specs.Map.{listed}
+use Rattle.counter.specs.Inside.{listed}
 use Rattle.counter.proofs.RangeTests.{every-more, every-not}
 use Rattle.counter.proofs.soundness.is_new.Statement.{statement}
 use Rattle.counter.proofs.soundness.is_new.Tie as tie

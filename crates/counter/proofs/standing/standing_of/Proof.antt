@@ -7,7 +7,7 @@ use lib.ListN.{length}
 use Rattle.counter.specs.Slots.{two}
 use Rattle.counter.specs.Places.{lengthGood, placesGood}
 use Rattle.counter.specs.Map.{mapIn, marked}
-use Rattle.counter.specs.Standing.{standingOf}
+use Rattle.counter.specs.Inside.{standingOf}
 use Rattle.counter.proofs.Settings.{good-placed}
 use Rattle.counter.proofs.MapBytes.{map-whole}
 use borrow.Author.Needs.{needs}

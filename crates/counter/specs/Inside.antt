@@ -1,0 +1,57 @@
+-- What the contracts of functions inside the crate are said with. No promise of a door rests on anything here.
+use Prim.Native.Nat.{ℕ, _+_, _%_, _≤_, _<_}
+use mathlib.Core.Path.{_≡_}
+use mathlib.Core.Bool.{Bool}
+use mathlib.Core.List.{List, [], _∷_, _++_}
+use lib.ListN.{length, getD}
+use Rattle.code.specs.Readings.{isLost}
+use Rattle.code.specs.Entries.{readingAt, twofoldAt}
+use Rattle.cells.specs.Chip.{pick}
+use Rattle.counter.specs.declared.places.Places.{Places}
+use Rattle.counter.specs.declared.reading.Fault.{Fault}
+use Rattle.counter.specs.declared.reading.Fault.the-variants.{Twofold, LostInAll}
+use Rattle.counter.specs.declared.standing.Standing.{Standing}
+use Rattle.counter.specs.declared.standing.Standing.the-variants.{Unfit, Unmarked, Marked}
+use Rattle.counter.specs.declared.verdict.Refusal.the-variants.{BadLength, BadPlaces}
+use Rattle.counter.specs.Slots.{two, slots, kindOf, _and_, _or_}
+use Rattle.counter.specs.Places.{mapCells, lengthGood, placesGood}
+use Rattle.counter.specs.Map.{mapIn, marked, pointerOf, pointerBytes}
+use Rattle.counter.specs.Reading.{dataAt}
+use Rattle.counter.specs.Store.{slotCode}
+
+-- how an image stands before its map is looked at: refusals 1, 2 and 3
+unfoldable pub standingOf : ℕ → Places → List ℕ → Standing
+standingOf copies p cells =
+    pick (lengthGood copies (length cells))
+    (pick (placesGood copies (length cells) p) (pick (marked (mapIn copies p cells)) Marked Unmarked) (Unfit BadPlaces))
+    (Unfit BadLength)
+
+-- slot k, in two copies, stands for one of the nibbles from one up to another
+abbrev pub Among : ℕ → ℕ → ℕ → Type 0
+Among from to k = (k < slots two) × (from ≤ k % 8) × (k % 8 < to)
+
+-- no two of such numbers have the same value
+abbrev pub Apart : (ℕ → Type 0) → (ℕ → ℕ) → Type 0
+Apart Of value = (i j : ℕ) → Of i → Of j → (i ≡ j → ⊥) → value i ≡ value j → ⊥
+
+-- the pointers, or the bytes, of all slots, given as a list
+abbrev pub listed : List ℕ → ℕ → ℕ
+listed values k = getD values k 0
+
+-- a whole map of two copies, all of whose pointers are cells of the image
+abbrev pub Reaches : List ℕ → List ℕ → Type 0
+Reaches cells map = (length map ≡ mapCells two) × ((k : ℕ) → k < slots two → pointerOf map k < length cells)
+
+-- a nibble whose two copies have these entries in the table of readings has the fault
+abbrev pub amiss : Fault → ℕ → ℕ → Bool
+amiss Twofold a b = twofoldAt a or twofoldAt b
+amiss LostInAll a b = isLost (readingAt a) and isLost (readingAt b)
+
+-- the cells of all slots hold their codes of c
+abbrev pub Holds : ℕ → Places → ℕ → List ℕ → Type 0
+Holds copies p c cells = (k : ℕ) → k < slots copies → dataAt cells (mapIn copies p cells) k ≡ slotCode c k
+
+-- the bytes that hold addresses as the pointers of the slots from k on
+unfoldable pub pointerRow : List ℕ → ℕ → List ℕ
+pointerRow [] k = []
+pointerRow (a ∷ rest) k = pointerBytes (kindOf k) a ++ pointerRow rest (k + 1)
