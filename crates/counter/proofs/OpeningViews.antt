@@ -4,6 +4,8 @@
 --   said-done, said-stopped   one piece of storing and then another, by how the first ended
 --   ahead                     addresses and writes in front of a taking
 --   takeLeft, take-left-..    what is left of taking addresses
+--   served-some, served-all  whether it served every slot
+--   Taking, taking-..         how a taking stands between two turns, and its end
 --   take-few                  it asks at most one write for each cell of the gap
 --   mark-said, mark-few       the mark
 --   map-stopped, map-marked, map-few  the map, by where its pointers ended, and what it asks
@@ -18,6 +20,7 @@ use native.Mathlib.Numerals.{add-one}
 use native.Mathlib.Omega.{arith}
 use lib.ListN.{length, getD, take, set, length-append, length-take, length-set}
 use lib.Seq.{take-all, take-suc-set}
+use borrow.Author.Tests.{lt-ltb, le-ltb}
 use Rattle.code.specs.Codes.{codeOf}
 use Rattle.cells.specs.declared.row.Found.{Found}
 use Rattle.cells.specs.declared.row.Found.the-variants.{At, Nowhere}
@@ -44,7 +47,7 @@ use Rattle.counter.specs.Spares.{wholeArea, narrow, nextOf, sparesOf}
 use Rattle.counter.specs.Verdict.{_andThen_}
 use Rattle.counter.specs.Store.{trySpares, putPointer, mapped}
 use Rattle.counter.specs.Opening.{Taken, taken, takeFrom, putPointers, putMark, untried, firstOpening}
-use Rattle.counter.specs.Inside.{listed, pointerRow}
+use Rattle.counter.specs.Inside.{listed, served, pointerRow}
 use Rattle.counter.proofs.SoundPointers.{sound-none, reach-test}
 use Rattle.counter.proofs.Gaps.{Free, between-none}
 use Rattle.counter.proofs.Ready.{Ready, ready-placed}
@@ -181,6 +184,12 @@ module _ (n : ℕ) where
   pub take-left-roomless : (k : ℕ) (g : Gap) (s : Chip) → k < n → sparesOf (kindOf k) g ≡ 0 → (xs : List ℕ) (w : ℕ) → ahead xs w (view (takeLeft n k g s)) ≡ seen (taken (Stopped (NoSpare k)) xs) w 0 s
   take-left-roomless k g s inside none xs w = take-left-missed k g (codeOf 0) s inside refl (sym (spares-none k g (codeOf 0) s none)) xs w refl ∙ rw add-zero
 
+pub served-some : (k : ℕ) → k < 16 → served k ≡ Stopped (NoSpare k)
+served-some k inside = rw (lt-ltb k 16 inside)
+
+pub served-all : (k : ℕ) → 16 ≤ k → served k ≡ Done
+served-all k all = rw (le-ltb k 16 all)
+
 -- when the first k slots have their addresses, at so many writes: the chip and what is left to be taken
 pub record Taking (s₀ : Chip) (g₀ : Gap) (s : Chip) (addresses : List ℕ) (g : Gap) (w k : ℕ) : Type 0 where
   pub most : k ≤ 16
@@ -190,6 +199,16 @@ pub record Taking (s₀ : Chip) (g₀ : Gap) (s : Chip) (addresses : List ℕ) (
   pub fits : GapFits (length (s₀ .cells)) g
   pub few : w + room g ≤ 4096
   pub rest : view (untried (takeFrom 16 0 g₀ s₀)) ≡ ahead (take k addresses) w (view (takeLeft 16 k g s))
+
+-- the end of it: every slot has its address, or no spare is left for the next
+module _ {s₀ : Chip} {g₀ : Gap} {s : Chip} {addresses : List ℕ} {g : Gap} {w k : ℕ} (taking : Taking s₀ g₀ s addresses g w k) where
+  pub taking-done : 16 ≤ k → seen (taken (served k) (take k addresses)) w 0 s ≡ view (untried (takeFrom 16 0 g₀ s₀))
+  taking-done all =
+      let most = taking .most in
+      rw (served-all k all) (sym (taking .rest ∙ take-left-none 16 (take k addresses) w k g s (omega arith)))
+
+  pub taking-roomless : k < 16 → sparesOf (kindOf k) g ≡ 0 → seen (taken (served k) (take k addresses)) w 0 s ≡ view (untried (takeFrom 16 0 g₀ s₀))
+  taking-roomless inside none = rw (served-some k inside) (sym (taking .rest ∙ take-left-roomless 16 k g s inside none (take k addresses) w))
 
 -- one turn: the next address is tried
 module _ {s₀ : Chip} {g₀ : Gap} {s : Chip} {addresses : List ℕ} {g : Gap} {w k : ℕ} (taking : Taking s₀ g₀ s addresses g w k) (inside : k < 16) {a : ℕ} {left : Gap} (next : Next k g a left) where

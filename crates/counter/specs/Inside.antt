@@ -4,6 +4,7 @@ use mathlib.Core.Path.{_≡_}
 use mathlib.Core.Bool.{Bool}
 use mathlib.Core.List.{List, [], _∷_, _++_}
 use lib.ListN.{length, getD}
+use lib.Dec.{ltb}
 use Rattle.code.specs.Readings.{isLost}
 use Rattle.code.specs.Entries.{readingAt, twofoldAt}
 use Rattle.cells.specs.Chip.{pick}
@@ -12,7 +13,9 @@ use Rattle.counter.specs.declared.reading.Fault.{Fault}
 use Rattle.counter.specs.declared.reading.Fault.the-variants.{Twofold, LostInAll}
 use Rattle.counter.specs.declared.standing.Standing.{Standing}
 use Rattle.counter.specs.declared.standing.Standing.the-variants.{Unfit, Unmarked, Marked}
-use Rattle.counter.specs.declared.verdict.Refusal.the-variants.{BadLength, BadPlaces}
+use Rattle.counter.specs.declared.verdict.Work.{Work}
+use Rattle.counter.specs.declared.verdict.Work.the-variants.{Done, Stopped}
+use Rattle.counter.specs.declared.verdict.Refusal.the-variants.{BadLength, BadPlaces, NoSpare}
 use Rattle.counter.specs.Slots.{two, slots, kindOf, _and_, _or_}
 use Rattle.counter.specs.Places.{mapCells, lengthGood, placesGood}
 use Rattle.counter.specs.Map.{mapIn, marked, pointerOf, pointerBytes}
@@ -50,6 +53,10 @@ amiss LostInAll a b = isLost (readingAt a) and isLost (readingAt b)
 -- the cells of all slots hold their codes of c
 abbrev pub Holds : ℕ → Places → ℕ → List ℕ → Type 0
 Holds copies p c cells = (k : ℕ) → k < slots copies → dataAt cells (mapIn copies p cells) k ≡ slotCode c k
+
+-- how a taking ended that served so many slots
+abbrev pub served : ℕ → Work
+served count = pick (ltb count 16) (Stopped (NoSpare count)) Done
 
 -- the bytes that hold addresses as the pointers of the slots from k on
 unfoldable pub pointerRow : List ℕ → ℕ → List ℕ

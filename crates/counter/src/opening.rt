@@ -13,7 +13,7 @@ ghost use Rattle.counter.specs.Map.{reachable};
 ghost use Rattle.counter.specs.Spares.{wholeArea};
 ghost use Rattle.counter.specs.Verdict.{_andThen_};
 ghost use Rattle.counter.specs.Opening.{taken, takeFrom, putPointers, putMark, untried, firstOpening};
-ghost use Rattle.counter.specs.Inside.{pointerRow};
+ghost use Rattle.counter.specs.Inside.{served, pointerRow};
 use super::map::Map;
 use super::map::offset_of;
 use super::places::Places;
@@ -27,20 +27,19 @@ use cells::row::RowPut;
 use cells::row::put_row;
 use code::codes::code_of;
 
-// How the taking ended, the addresses taken, as many as `count`, and the writes asked for.
+// The addresses taken, one for each of the first `count` slots, and the writes asked for.
 struct Takings {
-    work: Work,
     addresses: [usize; 16],
     count: usize,
     writes: usize,
 }
 
-// 80 put for every slot, each at the next address of its kind that holds it. An address that does not is passed
-// over, as if it were taken. `high` is the next High address and `low` the lowest Low pointer, as in a gap. The Low
-// slots of a copy have a loop of their own, and so have its High slots, so that no turn asks which kind it serves.
+// 80 put for every slot, each at the next address of its kind that holds it, up to the first slot for which no cell is
+// left. An address that does not hold it is passed over, as if it were taken. `high` is the next High address and `low`
+// the lowest Low pointer, as in a gap.
 fn take_addresses(image: &mut [u8], lives: &mut [u32], p: Places) -> Takings
     requires { ⌜ fitted two p (chip (now image) (now lives)) ≡ true ⌝ }
-    ensures { λ r. ⌜ seen (taken (r .work) (take (r .count) (r .addresses))) (r .writes) 0 (chip (now (image .exit)) (now (lives .exit))) ≡ view (untried (takeFrom 16 0 (wholeArea p) (chip (now (image .entry)) (now (lives .entry))))) ⌝ }
+    ensures { λ r. ⌜ seen (taken (served (r .count)) (take (r .count) (r .addresses))) (r .writes) 0 (chip (now (image .exit)) (now (lives .exit))) ≡ view (untried (takeFrom 16 0 (wholeArea p) (chip (now (image .entry)) (now (lives .entry))))) ⌝ }
 {
     let mut addresses = [0usize; 16];
     let mut high = p.start;
@@ -48,52 +47,27 @@ fn take_addresses(image: &mut [u8], lives: &mut [u32], p: Places) -> Takings
     let mut writes = 0;
     let mut slot = 0;
     while slot < Map::SLOTS {
-        while slot % 8 < 3 {
-            if high == low {
-                return Takings {
-                    work: Work::Stopped(Refusal::NoSpare(slot)),
-                    addresses,
-                    count: slot,
-                    writes,
-                };
-            }
-            low -= 1;
-            let done = put(image, lives, low, code_of(0));
-            writes += done.writes;
-            if done.held {
-                addresses[slot] = low;
-                slot += 1;
-            }
+        if high == low {
+            break;
         }
-        while 3 <= slot % 8 {
-            let at = high;
-            if at == low {
-                return Takings {
-                    work: Work::Stopped(Refusal::NoSpare(slot)),
-                    addresses,
-                    count: slot,
-                    writes,
-                };
-            }
-            if at == 256 {
-                return Takings {
-                    work: Work::Stopped(Refusal::NoSpare(slot)),
-                    addresses,
-                    count: slot,
-                    writes,
-                };
+        let mut at = high;
+        if slot % 8 < 3 {
+            low -= 1;
+            at = low;
+        } else {
+            if high == 256 {
+                break;
             }
             high += 1;
-            let done = put(image, lives, at, code_of(0));
-            writes += done.writes;
-            if done.held {
-                addresses[slot] = at;
-                slot += 1;
-            }
+        }
+        let done = put(image, lives, at, code_of(0));
+        writes += done.writes;
+        if done.held {
+            addresses[slot] = at;
+            slot += 1;
         }
     }
     Takings {
-        work: Work::Done,
         addresses,
         count: slot,
         writes,
@@ -185,11 +159,11 @@ pub(crate) fn open_first(image: &mut [u8], lives: &mut [u32], p: Places) -> Stor
     ensures { λ r. ⌜ seen (r .work) (r .writes) (r .tried) (chip (now (image .exit)) (now (lives .exit))) ≡ view (firstOpening two p (chip (now (image .entry)) (now (lives .entry)))) ⌝ }
 {
     let takings = take_addresses(image, lives, p);
-    let work = takings.work;
     let addresses = takings.addresses;
-    if let Work::Stopped(why) = work {
+    let count = takings.count;
+    if count < Map::SLOTS {
         return Stored {
-            work: Work::Stopped(why),
+            work: Work::Stopped(Refusal::NoSpare(count)),
             writes: takings.writes,
             tried: 0,
         };

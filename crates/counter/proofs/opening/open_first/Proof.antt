@@ -4,15 +4,12 @@ use borrow.Author.Needs.{needs}
 use native.Mathlib.Omega.{arith}
 use lib.ListN.{length, take, length-map}
 use Rattle.counter.proofs.Fitted.{fitted-ready, ready-fitted}
-use Rattle.counter.proofs.OpeningViews.{ready-same, taken-whole, taken-reach, taking-few, map-few, opening-roomless, opening-mapped}
+use Rattle.counter.proofs.OpeningViews.{ready-same, served-some, served-all, taken-whole, taken-reach, taking-few, map-few, opening-roomless, opening-mapped}
 use Rattle.counter.proofs.opening.open_first.Statement.{statement}
 use Rattle.counter.proofs.opening.open_first.Tie as tie
 
 take-addresses-requires : tie.Need-take-addresses-requires
 take-addresses-requires c κs = search needs
-
-enum-known-work : tie.Need-enum-known-work
-enum-known-work c = search needs
 
 same-length : tie.Need-same-length
 same-length c = search needs
@@ -21,35 +18,34 @@ same-length-2 : tie.Need-same-length-2
 same-length-2 c = search needs
 
 returns : tie.Need-returns
-returns c = sym (opening-roomless _ _ (c .before .before .before .before .before .before .before .before .take-addresses .ensures) (c .before .work .given .1))
-
-enum-told : tie.Need-enum-told
-enum-told c = search needs
+returns c =
+    let took = c .before .before .before .before .before .before in
+    sym (opening-roomless _ _ (took .take-addresses .ensures) (served-some _ (c .if1 .taken)))
 
 -- the array has its sixteen elements
 sixteen : (c : tie.After-take-addresses) → length (c .take-addresses .result .addresses) ≡ 16
-sixteen c = simp length-map at (c .take-addresses .ok .1 .1 .1 .0 .1 .0 .1)
+sixteen c = simp length-map at (c .take-addresses .ok .1 .1 .0 .1 .0 .1)
 
--- once the taking is done, its addresses are all of the array
-whole : (c : tie.After-enum-told) → let r = c .before .before .before .before .before .before .before .take-addresses .result in take (r .count) (r .addresses) ≡ r .addresses
+-- once every slot is served, the addresses are all of the array
+whole : (c : tie.Else1) → let r = c .before .before .before .before .before .before .take-addresses .result in take (r .count) (r .addresses) ≡ r .addresses
 whole c =
-    let took = c .before .before .before .before .before .before .before in
-    taken-whole _ _ (took .take-addresses .ensures) (fitted-ready (took .before .before .before .before .before .pre)) (c .enum-told .given .1) (took .take-addresses .result .count) _ refl (sixteen took)
+    let took = c .before .before .before .before .before .before in
+    taken-whole _ _ (took .take-addresses .ensures) (fitted-ready (took .before .before .before .before .before .pre)) (served-all _ (c .if1 .left)) (took .take-addresses .result .count) _ refl (sixteen took)
 
 put-map-requires : tie.Need-put-map-requires
 put-map-requires c κs =
-    let done = c .before .before .before in
-    let took = done .before .before .before .before .before .before .before in
+    let served = c .before .before .before in
+    let took = served .before .before .before .before .before .before in
     let ready = fitted-ready (took .before .before .before .before .before .pre) in (
       ready-fitted (ready-same ready (took .take-addresses .kept .0) (took .take-addresses .kept .1 .0)),
       sixteen took,
-      λ k l. rw (whole done) at (taken-reach _ _ (took .take-addresses .ensures) ready (done .enum-told .given .1) k l),
+      λ k l. rw (whole served) at (taken-reach _ _ (took .take-addresses .ensures) ready (served-all _ (served .if1 .left)) k l),
     )
 
-add-t20 : tie.Need-add-t20
-add-t20 c =
+add-t21 : tie.Need-add-t21
+add-t21 c =
     let map = c .before .before .before .before .before .before in
-    let took = map .before .before .before .before .before .before .before .before .before .before .before in
+    let took = map .before .before .before .before .before .before .before .before .before .before in
     omega (
       arith,
       taking-few _ _ (took .take-addresses .ensures) (fitted-ready (took .before .before .before .before .before .pre)),
@@ -66,21 +62,20 @@ same-length-4 c = search needs
 returns-2 : tie.Need-returns-2
 returns-2 c =
     let map = c .before .before .before .before .before .before in
-    let done = map .before .before .before .before in
-    sym (opening-mapped _ _ (done .before .before .before .before .before .before .before .take-addresses .ensures) (done .enum-told .given .1) (whole done) (map .put-map .ensures))
+    let served = map .before .before .before .before in
+    let took = served .before .before .before .before .before .before in
+    sym (opening-mapped _ _ (took .take-addresses .ensures) (served-all _ (served .if1 .left)) (whole served) (map .put-map .ensures))
 
 pub open-first-spec : {M : Type 1} → statement M
 open-first-spec =
     tie.close
     (tie.spec
     take-addresses-requires
-    enum-known-work
     same-length
     same-length-2
     returns
-    enum-told
     put-map-requires
-    add-t20
+    add-t21
     same-length-3
     same-length-4
     returns-2)
