@@ -1,6 +1,6 @@
 -- Laws of bytes put at neighbouring cells: what it keeps, what it changes, what it costs.
 use Prim.Native.Nat.{ℕ, zero, suc, _+_, _-_, _≤_, _<_}
-use mathlib.Core.Path.{_≡_, refl, sym, _∙_}
+use mathlib.Core.Path.{_≡_, refl, sym, ap, _∙_}
 use mathlib.Core.Bool.{Bool, true, false}
 use mathlib.Core.List.{List, [], _∷_, _++_, append-assoc}
 use native.Mathlib.Nat.{zero-add, add-zero, add-assoc}
@@ -223,11 +223,11 @@ module _ (b : ℕ) (bs : List ℕ) (a : ℕ) (s : Chip) {v : Seen Bool} (e : v �
 -- a row in two pieces, over what is said of the first i bytes, `v`
 module _ (bytes : List ℕ) (i a : ℕ) (s : Chip) {v : Seen Found} (e : v ≡ view (putRow (take i bytes) a s)) where
   -- a byte of the first failed
-  pub row-first-failed : (x : ℕ) → v .answer ≡ At x → view (putRow bytes a s) ≡ seen (At x) (v .writes) 0 (v .after)
+  pub row-first-failed : (x : ℕ) → v .answer ≡ At x → view (putRow bytes a s) ≡ v
   row-first-failed x h =
       let answer = said-answer (putRow (take i bytes) a s) e h in
       let same : putRow bytes a s ≡ putRow (take i bytes) a s = rw (take-append-drop i bytes) at (row-alone (drop i bytes) x (take i bytes) a s answer) in
-      rw (same, e, answer, row-tried (take i bytes) a s)
+      ap view same ∙ sym e
 
   -- the first held
   pub row-first-held :

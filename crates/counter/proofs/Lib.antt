@@ -14,6 +14,7 @@ pub mod Tries
 pub mod Moves
 pub mod Written
 pub mod Stores
+pub mod Behind
 pub mod StoreViews
 pub mod StoreCosts
 pub mod Takes

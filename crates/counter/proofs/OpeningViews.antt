@@ -1,14 +1,13 @@
 -- What is said of a first opening, one law a turn, over what functions have said of its pieces, `v`, `w` and `m`.
 --   ready-same                a chip of the same lengths is as ready
 --   whole-fits, narrow-fits   the gaps of a first opening fit the image
---   said-done, said-stopped   one piece of storing and then another, by how the first ended
 --   ahead                     addresses and writes in front of a taking
 --   takeLeft, take-left-..    what is left of taking addresses
 --   served-some, served-all  whether it served every slot
 --   Taking, taking-..         how a taking stands between two turns, and its end
 --   take-few                  it asks at most one write for each cell of the gap
 --   mark-said, mark-few       the mark
---   map-stopped, map-marked, map-few  the map, by where its pointers ended, and what it asks
+--   pointers-said, pointers-few, map-few  the pointers, as one row of bytes, and what they and the map ask
 --   opening-roomless, opening-mapped  the whole, by where it ended
 --   taken-whole, taken-reach, taking-few  the addresses taken are sixteen pointers, taken at few writes
 use Prim.Native.Nat.{ℕ, zero, suc, _+_, _-_, _*_, _≤_, _<_}
@@ -28,7 +27,7 @@ use Rattle.cells.specs.Chip.{Chip, Paired}
 use Rattle.cells.specs.Run.{Run, Seen, seen, view, plus, _giving_}
 use Rattle.cells.specs.Put.{putAt}
 use Rattle.cells.specs.Row.{tryAt, putRow}
-use Rattle.cells.proofs.Views.{said-then, said-answer}
+use Rattle.cells.proofs.Views.{said-answer}
 use Rattle.cells.proofs.Writes.{kept-paired}
 use Rattle.cells.proofs.Logs.{within-kept}
 use Rattle.cells.proofs.Puts.{put-within, put-few, put-laws}
@@ -39,22 +38,22 @@ use Rattle.counter.specs.declared.places.Places.{Places}
 use Rattle.counter.specs.declared.spares.Gap.{Gap}
 use Rattle.counter.specs.declared.verdict.Work.{Work}
 use Rattle.counter.specs.declared.verdict.Work.the-variants.{Done, Stopped}
-use Rattle.counter.specs.declared.verdict.Refusal.{Refusal}
-use Rattle.counter.specs.declared.verdict.Refusal.the-variants.{NoSpare, MapByte}
+use Rattle.counter.specs.declared.verdict.Refusal.the-variants.{NoSpare}
 use Rattle.counter.specs.Slots.{two, kindOf}
 use Rattle.counter.specs.Map.{offsetIn, offsetOf, markBytes, reachable}
 use Rattle.counter.specs.Spares.{wholeArea, narrow, nextOf, sparesOf}
 use Rattle.counter.specs.Verdict.{_andThen_}
 use Rattle.counter.specs.Store.{trySpares, putPointer, mapped}
 use Rattle.counter.specs.Opening.{Taken, taken, takeFrom, putPointers, putMark, untried, firstOpening}
-use Rattle.counter.specs.Inside.{listed, served, pointerRow}
+use Rattle.counter.specs.Inside.{listed, stopped, served, pointerRow}
 use Rattle.counter.proofs.SoundPointers.{sound-none, reach-test}
 use Rattle.counter.proofs.Gaps.{Free, between-none}
 use Rattle.counter.proofs.Ready.{Ready, ready-placed}
 use Rattle.counter.proofs.Fitted.{ready-short}
 use Rattle.counter.proofs.Tries.{room, Landing, Trying, Trying.missing, Trying.landing, try-laws}
 use Rattle.counter.proofs.Stores.{done-then, stopped-then}
-use Rattle.counter.proofs.StoreViews.{pointer-tried, GapFits}
+use Rattle.counter.proofs.Behind.{stopped-not, said-done, said-stopped}
+use Rattle.counter.proofs.StoreViews.{GapFits}
 use Rattle.counter.proofs.StoreCosts.{pointer-few}
 use Rattle.counter.proofs.NextSpares.{Next, next-free, next-room, narrow-behind, spares-none, spares-held, spares-passed}
 use Rattle.counter.proofs.Takes.{AllTaken, take-laws}
@@ -78,13 +77,6 @@ narrow-fits High fits free = let h = free .reach refl in record { first = omega 
 narrow-fits Low fits free = record { first = fits .first; reach = fits .reach; ordered = omega arith; inside = omega arith }
 
 -- ## Work behind work
-
-module _ (r : Run Work) (work : Chip → Run Work) {v : Seen Work} (e : v ≡ view r) where
-  pub said-done : v .answer ≡ Done → view (r andThen work) ≡ plus (v .writes) (v .tried) (view (work (v .after)))
-  said-done h = rw (done-then r work (said-answer r e h)) (said-then r e work)
-
-  pub said-stopped : {why : Refusal} → v .answer ≡ Stopped why → view (r andThen work) ≡ seen (Stopped why) (v .writes) (v .tried) (v .after)
-  said-stopped {why} h = rw (stopped-then r work why (said-answer r e h), ← h, e)
 
 -- at most n writes asked, and no spare tried
 abbrev Few : ℕ → Seen Work → Type 0
@@ -277,7 +269,10 @@ unfolding putPointers
 pointers-cost [] k p s = (omega arith, refl)
 pointers-cost (a ∷ rest) k p s =
     let sum : 2 * suc (length rest) ≡ 2 + 2 * length rest = omega arith in
-    rw sum (then-few (putPointer p k a s) (putPointers rest (k + 1) p) (pointer-few p k a s refl, pointer-tried p k a s) (pointers-cost rest (k + 1) p (putPointer p k a s .after)))
+    rw sum (then-few (putPointer p k a s) (putPointers rest (k + 1) p) (pointer-few p k a s refl) (pointers-cost rest (k + 1) p (putPointer p k a s .after)))
+
+pub pointers-few : (addresses : List ℕ) (p : Places) (s : Chip) {v : Seen Work} → v ≡ view (putPointers addresses 0 p s) → (v .writes ≤ 2 * length addresses) × (v .tried ≡ 0)
+pointers-few addresses p s e = rw e (pointers-cost addresses 0 p s)
 
 pub mark-said : (p : Places) (s : Chip) {v : Seen Found} → v ≡ view (putRow markBytes (p .map) s) → view (putMark p s) ≡ seen (mapped (v .answer)) (v .writes) (v .tried) (v .after)
 unfolding putMark
@@ -294,26 +289,12 @@ module _ (addresses : List ℕ) (p : Places) (s : Chip) where
   pub map-few : {v : Seen Work} → v ≡ view mapping → (v .writes ≤ 2 * length addresses + 2) × (v .tried ≡ 0)
   map-few e = rw e (then-few (putPointers addresses 0 p s) (putMark p) (pointers-cost addresses 0 p s) (mark-few p (putPointers addresses 0 p s .after) refl))
 
-  module _ {v : Seen Found} (e : v ≡ view (putRow (pointerRow addresses 0) (p .map + 2) s)) where
-    -- what is said of the row, said of the pointers
-    said-pointers : seen (mapped (v .answer)) (v .writes) (v .tried) (v .after) ≡ view (putPointers addresses 0 p s)
-    unfolding offsetOf offsetIn
-    said-pointers = rw (pointers-row addresses 0 p s, e)
-
-    none : v .tried ≡ 0
-    none = ap (λ (u : Seen Found). u .tried) e ∙ row-tried (pointerRow addresses 0) (p .map + 2) s
-
-    pub map-stopped : {a : ℕ} → v .answer ≡ At a → view mapping ≡ seen (Stopped (MapByte a)) (v .writes) 0 (v .after)
-    unfolding mapped
-    map-stopped {a} h = said-stopped (putPointers addresses 0 p s) (putMark p) said-pointers {why = MapByte a} (rw h) ∙ rw none
-
-    pub map-marked : v .answer ≡ Nowhere → {m : Seen Work} → m ≡ view (putMark p (v .after)) → view mapping ≡ seen (m .answer) (v .writes + m .writes) 0 (m .after)
-    unfolding mapped
-    map-marked h {m} d =
-        let silent : v .tried + m .tried ≡ 0 = omega (arith, none, mark-few p (v .after) d .1) in
-        said-done (putPointers addresses 0 p s) (putMark p) said-pointers (rw h)
-        ∙ ap (plus (v .writes) (v .tried)) (sym d)
-        ∙ ap (λ (t : ℕ). seen (m .answer) (v .writes + m .writes) t (m .after)) silent
+  -- what is said of the row of their bytes, said of the pointers
+  pub pointers-said : {v : Seen Found} → v ≡ view (putRow (pointerRow addresses 0) (p .map + 2) s) → seen (mapped (v .answer)) (v .writes) 0 (v .after) ≡ view (putPointers addresses 0 p s)
+  unfolding offsetOf offsetIn
+  pointers-said {v} e =
+      let none : v .tried ≡ 0 = ap (λ (u : Seen Found). u .tried) e ∙ row-tried (pointerRow addresses 0) (p .map + 2) s in
+      ap (λ (t : ℕ). seen (mapped (v .answer)) (v .writes) t (v .after)) (sym none) ∙ rw (pointers-row addresses 0 p s, e)
 
 -- ## The whole
 
@@ -324,28 +305,24 @@ module _ (p : Places) (s : Chip) {v : Seen Taken} (e : v ≡ view (untried (take
   abbrev saidTaking : Seen Work
   saidTaking = seen (v .answer .work) (v .writes) (v .tried) (v .after)
 
-  opening-taken : v .answer .work ≡ Done → view (firstOpening two p s) ≡ plus (v .writes) (v .tried) (view (putPointers (v .answer .addresses) 0 p (v .after) andThen putMark p))
-  unfolding firstOpening
-  opening-taken h = said-done (taking giving taking .answer .work) (λ t. putPointers (taking .answer .addresses) 0 p t andThen putMark p) {v = saidTaking} (rw e) h ∙ rw e
-
-  pub opening-roomless : {why : Refusal} → v .answer .work ≡ Stopped why → view (firstOpening two p s) ≡ seen (Stopped why) (v .writes) (v .tried) (v .after)
+  pub opening-roomless : stopped (v .answer .work) ≡ true → view (firstOpening two p s) ≡ saidTaking
   unfolding firstOpening
   opening-roomless h = said-stopped (taking giving taking .answer .work) (λ t. putPointers (taking .answer .addresses) 0 p t andThen putMark p) {v = saidTaking} (rw e) h
 
   pub opening-mapped :
-      v .answer .work ≡ Done → {addresses : List ℕ} → v .answer .addresses ≡ addresses
+      stopped (v .answer .work) ≡ false → {addresses : List ℕ} → v .answer .addresses ≡ addresses
       → {w : Seen Work} → w ≡ view (mapping addresses p (v .after))
-      → view (firstOpening two p s) ≡ seen (w .answer) (v .writes + w .writes) 0 (w .after)
+      → view (firstOpening two p s) ≡ plus (v .writes) 0 w
+  unfolding firstOpening
   opening-mapped h {addresses} whole {w} f =
-      let silent : v .tried + w .tried ≡ 0 = omega (arith, ap (λ (u : Seen Taken). u .tried) e, map-few addresses p (v .after) f .1) in
-      opening-taken h
-      ∙ ap (λ (xs : List ℕ). plus (v .writes) (v .tried) (view (mapping xs p (v .after)))) whole
+      said-done (taking giving taking .answer .work) (λ t. putPointers (taking .answer .addresses) 0 p t andThen putMark p) {v = saidTaking} (rw e) h
+      ∙ ap (λ (xs : List ℕ). plus (v .writes) (v .tried) (view (mapping xs p (v .after)))) (sym (ap (λ (u : Seen Taken). u .answer .addresses) e) ∙ whole)
       ∙ ap (plus (v .writes) (v .tried)) (sym f)
-      ∙ ap (λ (t : ℕ). seen (w .answer) (v .writes + w .writes) t (w .after)) silent
+      ∙ ap (λ (t : ℕ). plus (v .writes) t w) (ap (λ (u : Seen Taken). u .tried) e)
 
-  module _ (ready : Ready two p s) (h : v .answer .work ≡ Done) where
+  module _ (ready : Ready two p s) (h : stopped (v .answer .work) ≡ false) where
     all : AllTaken 16 0 (wholeArea p) (takeFrom 16 0 (wholeArea p) s)
-    all = take-laws 16 0 (wholeArea p) s (ready .paired) .all (sym (ap (λ (w : Seen Taken). w .answer .work) e) ∙ h)
+    all = take-laws 16 0 (wholeArea p) s (ready .paired) .all (sym (ap (λ (w : Seen Taken). w .answer .work) e) ∙ stopped-not (v .answer .work) h)
 
     taken-many : length (v .answer .addresses) ≡ 16
     taken-many = rw e (all .many)

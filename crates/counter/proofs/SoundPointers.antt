@@ -15,7 +15,7 @@ use borrow.Author.Tests.{leb-true, ltb-true, eqb-false, not-true, le-leb, lt-ltb
 use Rattle.counter.specs.declared.map.Kind.{Kind}
 use Rattle.counter.specs.declared.map.Kind.the-variants.{High, Low}
 use Rattle.counter.specs.declared.places.Places.{Places}
-use Rattle.counter.specs.Slots.{slots, kindOf, every, _and_}
+use Rattle.counter.specs.Slots.{slots, kindOf, every}
 use Rattle.counter.specs.Map.{inArea, reachable, inOrder, sound}
 use Rattle.counter.proofs.RangeTests.{and-true, true-and, every-all, all-every}
 

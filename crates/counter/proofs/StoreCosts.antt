@@ -59,8 +59,8 @@ pointer-cost p k a s =
     let none = row-tried (pointerBytes (kindOf k) a) (p .map + offsetOf k) s in
     record { asks = omega arith; tries = omega arith }
 
-pub pointer-few : (p : Places) (k a : ℕ) (s : Chip) {v : Seen Work} → v ≡ view (putPointer p k a s) → v .writes ≤ 2
-pointer-few p k a s e = rw e (pointer-cost p k a s .asks)
+pub pointer-few : (p : Places) (k a : ℕ) (s : Chip) {v : Seen Work} → v ≡ view (putPointer p k a s) → (v .writes ≤ 2) × (v .tried ≡ 0)
+pointer-few p k a s e = let cost = pointer-cost p k a s in rw e (cost .asks, omega (arith, cost .tries))
 
 module _ {copies : ℕ} {p : Places} {s : Chip} (ready : Ready copies p s) (k b : ℕ) where
   tries-cost : Costs 4096 4096 (tries copies p k b s)
@@ -80,8 +80,8 @@ module _ {copies : ℕ} {p : Places} {s : Chip} (ready : Ready copies p s) (k b 
           let pointer = pointer-cost p k a (tries copies p k b s .after) in
           rw (move-landing copies p k b s a h) (record { asks = rw length-append (omega (arith, tries-cost)); tries = omega (arith, tries-cost) })
 
-  pub move-few : {v : Seen Work} → v ≡ view (moveSlot copies p k b s) → v .writes ≤ 4098
-  move-few e = rw e (move-cost .asks)
+  pub move-few : {v : Seen Work} → v ≡ view (moveSlot copies p k b s) → (v .writes ≤ 4098) × (v .tried ≤ 4096)
+  move-few e = rw e (move-cost .asks, move-cost .tries)
 
 module _ {copies : ℕ} {p : Places} {s : Chip} (ready : Ready copies p s) (k b : ℕ) where
   slot-cost : Costs 4099 4096 (storeSlot copies p k b s)

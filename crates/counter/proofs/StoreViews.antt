@@ -1,6 +1,5 @@
 -- What is said of storing, one law a turn, over what functions have said of its pieces, `v` and `u`.
 --   low-pointer, high-pointer the bytes of a pointer were put, by its slot's kind
---   pointer-tried             a pointer tries no spare
 --   GapFits, gap-fits         the gap that a fitting chip's pointers leave
 --   SpareHeld, spare-held     what a spare that holds leaves for the pointer
 --   move-nowhere, move-at     a byte was moved, by what was found
@@ -25,12 +24,10 @@ use Rattle.cells.specs.Row.{putRow}
 use Rattle.cells.proofs.Views.{said-then, said-giving, said-answer, said-after}
 use Rattle.cells.proofs.Logs.{within-kept}
 use Rattle.cells.proofs.Puts.{put-tried, put-laws}
-use Rattle.cells.proofs.Rows.{row-tried}
 use Rattle.counter.specs.declared.places.Places.{Places}
 use Rattle.counter.specs.declared.spares.Gap.{Gap}
 use Rattle.counter.specs.declared.verdict.Work.{Work}
 use Rattle.counter.specs.declared.verdict.Work.the-variants.{Done, Stopped}
-use Rattle.counter.specs.declared.verdict.Refusal.{Refusal}
 use Rattle.counter.specs.declared.verdict.Refusal.the-variants.{NoSpare}
 use Rattle.counter.specs.Slots.{slots, kindOf}
 use Rattle.counter.specs.Places.{fitted}
@@ -44,7 +41,9 @@ use Rattle.counter.proofs.Ready.{pointers, Ready, Own, ready-placed, re
 use Rattle.counter.proofs.Fitted.{fitted-ready, ready-fitted, ready-short}
 use Rattle.counter.proofs.Tries.{Trying, Trying.missing, Trying.landing, TryLaws, try-laws}
 use Rattle.counter.proofs.Moves.{gapAt, tries, first, move-missing, move-landing, slot-held, slot-failed, slot-laws}
-use Rattle.counter.proofs.Stores.{done-then, stopped-then, store-laws}
+use Rattle.counter.specs.Inside.{stopped}
+use Rattle.counter.proofs.Stores.{store-laws}
+use Rattle.counter.proofs.Behind.{stopped-not, said-done, said-stopped}
 
 -- ## An address put as a slot's pointer
 
@@ -56,10 +55,6 @@ module _ (p : Places) (k a at : ℕ) (s : Chip) {v : Seen Found} (here : at ≡ 
   pub high-pointer : 3 ≤ k % 8 → a ≤ 255 → v ≡ view (putRow (a % 256 ∷ []) (p .map + at) s) → view (putPointer p k a s) ≡ seen (mapped (v .answer)) (v .writes) (v .tried) (v .after)
   unfolding putPointer pointerBytes
   high-pointer h small e = let same : a % 256 ≡ a = omega arith in rw (kind-high k h, ← here, e, same)
-
-pub pointer-tried : (p : Places) (k a : ℕ) (s : Chip) → putPointer p k a s .tried ≡ 0
-unfolding putPointer
-pointer-tried p k a s = row-tried (pointerBytes (kindOf k) a) (p .map + offsetOf k) s
 
 -- ## The gap that a fitting chip's pointers leave
 
@@ -117,12 +112,11 @@ module _ (copies : ℕ) (p : Places) (k b : ℕ) (s : Chip) {g : Gap} (here : g 
       ∙ said-then (tries copies p k b s) said (still (Stopped (NoSpare k)))
       ∙ simp add-zero
 
-  pub move-at : {a : ℕ} {u : Seen Work} → v .answer ≡ At a → u ≡ view (putPointer p k a (v .after)) → view (moveSlot copies p k b s) ≡ seen (u .answer) (v .writes + u .writes) (v .tried) (u .after)
+  pub move-at : {a : ℕ} → v .answer ≡ At a → {u : Seen Work} → u ≡ view (putPointer p k a (v .after)) → view (moveSlot copies p k b s) ≡ plus (v .writes) (v .tried) u
   move-at {a} h f =
       ap view (move-landing copies p k b s a (said-answer (tries copies p k b s) said h))
       ∙ said-then (tries copies p k b s) said (putPointer p k a)
       ∙ ap (plus _ _) (sym f)
-      ∙ rw (ap (λ (w : Seen Work). w .tried) f, pointer-tried, add-zero)
 
 -- ## A byte put at its slot's cell
 
@@ -142,12 +136,12 @@ module _ (copies : ℕ) (p : Places) (k b : ℕ) (s : Chip) {at : ℕ} (here : a
       let r = first copies p k b s in
       said-after r first-said ∙ ap (λ (q : Run Bool). q .after) (put-laws (pointers copies p s k) b s paired .unchanged (said-answer r first-said h))
 
-  pub slot-moved : {u : Seen Work} → v .answer ≡ false → u ≡ view (moveSlot copies p k b (v .after)) → view (storeSlot copies p k b s) ≡ seen (u .answer) (v .writes + u .writes) (u .tried) (u .after)
-  slot-moved h f =
+  pub slot-moved : v .answer ≡ false → {u : Seen Work} → u ≡ view (moveSlot copies p k b (v .after)) → view (storeSlot copies p k b s) ≡ plus (v .writes) 0 u
+  slot-moved h {u} f =
       ap view (slot-failed copies p k b s (said-answer (first copies p k b s) first-said h))
       ∙ said-then (first copies p k b s) first-said (moveSlot copies p k b)
       ∙ ap (plus _ _) (sym f)
-      ∙ rw (ap (λ (w : Seen Bool). w .tried) first-said, put-tried, zero-add)
+      ∙ ap (λ (t : ℕ). plus (v .writes) t u) (ap (λ (w : Seen Bool). w .tried) first-said ∙ put-tried _ _ _)
 
 -- ## A count stored
 
@@ -162,15 +156,15 @@ settled :
 settled copies p s r ready within well e = rw (said-after r e) (ready-fitted (ready-kept ready (within-kept within)), sound-test copies p _ well)
 
 module _ (copies : ℕ) (p : Places) (s : Chip) {v : Seen Work} (good : fitted copies p s ≡ true) (well : sound copies p (pointers copies p s) ≡ true) where
-  pub slot-settled : (k b : ℕ) → k < slots copies → v ≡ view (storeSlot copies p k b s) → v .answer ≡ Done → (fitted copies p (v .after) ≡ true) × (sound copies p (pointers copies p (v .after)) ≡ true)
+  pub slot-settled : (k b : ℕ) → k < slots copies → v ≡ view (storeSlot copies p k b s) → stopped (v .answer) ≡ false → (fitted copies p (v .after) ≡ true) × (sound copies p (pointers copies p (v .after)) ≡ true)
   slot-settled k b l e h =
       let laws = slot-laws (fitted-ready good) (test-sound copies p _ well) k l b in
-      settled copies p s _ (fitted-ready good) (laws .within) (laws .settles (said-answer (storeSlot copies p k b s) e h) .sound) e
+      settled copies p s _ (fitted-ready good) (laws .within) (laws .settles (said-answer (storeSlot copies p k b s) e (stopped-not (v .answer) h)) .sound) e
 
-  pub store-settled : (c : ℕ) → v ≡ view (store copies p c s) → v .answer ≡ Done → (fitted copies p (v .after) ≡ true) × (sound copies p (pointers copies p (v .after)) ≡ true)
+  pub store-settled : (c : ℕ) → v ≡ view (store copies p c s) → stopped (v .answer) ≡ false → (fitted copies p (v .after) ≡ true) × (sound copies p (pointers copies p (v .after)) ≡ true)
   store-settled c e h =
       let laws = store-laws copies p c s (fitted-ready good) (test-sound copies p _ well) in
-      settled copies p s _ (fitted-ready good) (laws .within) (laws .stored (said-answer (store copies p c s) e h) .sound) e
+      settled copies p s _ (fitted-ready good) (laws .within) (laws .stored (said-answer (store copies p c s) e (stopped-not (v .answer) h)) .sound) e
 
 -- what is left of a store when the slots below k hold their codes
 abbrev pub storeLeft : ℕ → Places → ℕ → ℕ → Chip → Run Work
@@ -194,15 +188,9 @@ module _ (copies : ℕ) (p : Places) (c : ℕ) where
     one-more = let more : slots copies - k ≡ suc (slots copies - (k + 1)) = omega arith in rw (more, here)
 
     -- slot k was done
-    pub store-left-done : v .answer ≡ Done → view (storeLeft copies p c k s) ≡ plus (v .writes) (v .tried) (view (storeLeft copies p c (k + 1) (v .after)))
-    store-left-done h =
-        let r = storeSlot copies p k b s in
-        ap view (one-more ∙ done-then r (storeLeft copies p c (k + 1)) (said-answer r e h)) ∙ said-then r e (storeLeft copies p c (k + 1))
+    pub store-left-done : stopped (v .answer) ≡ false → view (storeLeft copies p c k s) ≡ plus (v .writes) (v .tried) (view (storeLeft copies p c (k + 1) (v .after)))
+    store-left-done h = ap view one-more ∙ said-done (storeSlot copies p k b s) (storeLeft copies p c (k + 1)) e h
 
     -- slot k stopped
-    pub store-left-stopped : {why : Refusal} → v .answer ≡ Stopped why → view (storeLeft copies p c k s) ≡ seen (Stopped why) (v .writes) (v .tried) (v .after)
-    store-left-stopped {why} h =
-        let r = storeSlot copies p k b s in
-        ap view (one-more ∙ stopped-then r (storeLeft copies p c (k + 1)) why (said-answer r e h))
-        ∙ sym e
-        ∙ ap (λ (w : Work). seen w (v .writes) (v .tried) (v .after)) h
+    pub store-left-stopped : stopped (v .answer) ≡ true → view (storeLeft copies p c k s) ≡ v
+    store-left-stopped h = ap view one-more ∙ said-stopped (storeSlot copies p k b s) (storeLeft copies p c (k + 1)) e h

@@ -5,15 +5,13 @@
 --   written-then              what comes behind it, behind one write
 --   Left, written-left        what is left for another slot
 --   worn-moved                where the cell has no life, the put fails, and the byte is moved
---   said-behind               what is said of work with one write in front of it
-use Prim.Native.Nat.{ℕ, _+_, _≤_, _<_}
+use Prim.Native.Nat.{ℕ, _≤_, _<_}
 use mathlib.Core.Path.{_≡_, sym, ap, _∙_}
 use mathlib.Core.Bool.{Bool, false}
 use mathlib.Core.List.{List, [], _∷_}
-use native.Mathlib.Nat.{zero-add}
 use borrow.Author.Tests.{ne-eqb}
 use Rattle.cells.specs.Chip.{Chip, lifeAt, writeAt, Kept}
-use Rattle.cells.specs.Run.{Run, write, run, seen, view, plus, _giving_}
+use Rattle.cells.specs.Run.{Run, write, run, view, plus, _giving_}
 use Rattle.cells.proofs.Views.{view-then}
 use Rattle.cells.proofs.Writes.{kept-wider, write-laws}
 use Rattle.cells.proofs.Puts.{put-laws}
@@ -87,8 +85,3 @@ module _ {copies : ℕ} {p : Places} {s : Chip} (ready : Ready copies p s) (soun
         pointer = ap (λ (map : List ℕ). pointerOf map j) written-map;
         other = λ q. other (sym (written-data j h d) ∙ q);
       })
-
--- ## What is said of it
-
-pub said-behind : {w x : Work} {n t y : ℕ} (m : ℕ) {s : Chip} → (w ≡ x) × (n ≡ 1 + m) × (t ≡ y) → seen w n t s ≡ plus 1 0 (seen x m y s)
-said-behind m (e, f, g) = rw (e, f, g, zero-add)

@@ -1,7 +1,7 @@
 -- What the contracts of functions inside the crate are said with. No promise of a door rests on anything here.
 use Prim.Native.Nat.{ℕ, _+_, _%_, _≤_, _<_}
 use mathlib.Core.Path.{_≡_}
-use mathlib.Core.Bool.{Bool}
+use mathlib.Core.Bool.{Bool, true, false}
 use mathlib.Core.List.{List, [], _∷_, _++_}
 use lib.ListN.{length, getD}
 use lib.Dec.{ltb}
@@ -53,6 +53,11 @@ amiss LostInAll a b = isLost (readingAt a) and isLost (readingAt b)
 -- the cells of all slots hold their codes of c
 abbrev pub Holds : ℕ → Places → ℕ → List ℕ → Type 0
 Holds copies p c cells = (k : ℕ) → k < slots copies → dataAt cells (mapIn copies p cells) k ≡ slotCode c k
+
+-- a piece of storing was stopped
+abbrev pub stopped : Work → Bool
+stopped Done = false
+stopped (Stopped why) = true
 
 -- how a taking ended that served so many slots
 abbrev pub served : ℕ → Work

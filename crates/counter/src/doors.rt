@@ -23,6 +23,8 @@ use super::soundness::plainly_sound;
 use super::standing::Standing;
 use super::standing::standing_of;
 use super::store::Stored;
+use super::store::behind;
+use super::store::is_stopped;
 use super::store::settle;
 use super::store::store_count;
 use super::store::store_next;
@@ -120,21 +122,14 @@ fn store_twice(image: &mut [u8], lives: &mut [u32], p: Places, count: u32) -> St
     ensures { λ r. ⌜ seen (r .work) (r .writes) (r .tried) (chip (now (image .exit)) (now (lives .exit))) ≡ view (store two p count (chip (now (image .entry)) (now (lives .entry))) andThen store two p (count + 1)) ⌝ }
 {
     let settled = store_count(image, lives, p, count);
-    let work = settled.work;
-    if let Work::Stopped(why) = work {
-        return Stored {
-            work: Work::Stopped(why),
-            writes: settled.writes,
-            tried: settled.tried,
-        };
+    if is_stopped(settled) {
+        return settled;
     }
-    let stepped = store_count(image, lives, p, count + 1);
-    let work = stepped.work;
-    Stored {
-        work,
-        writes: settled.writes + stepped.writes,
-        tried: settled.tried + stepped.tried,
-    }
+    behind(
+        settled.writes,
+        settled.tried,
+        store_count(image, lives, p, count + 1),
+    )
 }
 
 // A step from a count and a lag that were read: where all slots hold the count's codes, the first of the two

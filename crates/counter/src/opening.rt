@@ -18,6 +18,8 @@ use super::map::Map;
 use super::map::offset_of;
 use super::places::Places;
 use super::store::Stored;
+use super::store::behind;
+use super::store::is_stopped;
 use super::store::mapped;
 use super::verdict::Refusal;
 use super::verdict::Work;
@@ -110,11 +112,8 @@ fn put_copies(image: &mut [u8], lives: &mut [u32], at: usize, bytes: &[u8]) -> R
 {
     let first = put_row(image, lives, at, &bytes[0..Map::COPY_SIZE]);
     let failed = first.failed;
-    if let Found::At(address) = failed {
-        return RowPut {
-            failed: Found::At(address),
-            writes: first.writes,
-        };
+    if let Found::At(_) = failed {
+        return first;
     }
     let second = put_row(
         image,
@@ -135,22 +134,11 @@ fn put_map(image: &mut [u8], lives: &mut [u32], p: Places, addresses: &[usize; 1
     ensures { λ r. ⌜ seen (r .work) (r .writes) (r .tried) (chip (now (image .exit)) (now (lives .exit))) ≡ view (putPointers (now (addresses .entry)) 0 p (chip (now (image .entry)) (now (lives .entry))) andThen putMark p) ⌝ }
 {
     let bytes = pointer_row(addresses);
-    let row = put_copies(image, lives, p.map + Map::FIRST_COPY, &bytes);
-    let failed = row.failed;
-    if let Found::At(address) = failed {
-        return Stored {
-            work: Work::Stopped(Refusal::MapByte(address)),
-            writes: row.writes,
-            tried: 0,
-        };
+    let pointers = mapped(put_copies(image, lives, p.map + Map::FIRST_COPY, &bytes));
+    if is_stopped(pointers) {
+        return pointers;
     }
-    let mark = put_mark(image, lives, p);
-    let work = mark.work;
-    Stored {
-        work,
-        writes: row.writes + mark.writes,
-        tried: 0,
-    }
+    behind(pointers.writes, pointers.tried, put_mark(image, lives, p))
 }
 
 // All of it, up to what stops it.
@@ -168,11 +156,5 @@ pub(crate) fn open_first(image: &mut [u8], lives: &mut [u32], p: Places) -> Stor
             tried: 0,
         };
     }
-    let map = put_map(image, lives, p, &addresses);
-    let work = map.work;
-    Stored {
-        work,
-        writes: takings.writes + map.writes,
-        tried: 0,
-    }
+    behind(takings.writes, 0, put_map(image, lives, p, &addresses))
 }

@@ -4,15 +4,15 @@ ghost use mathlib.Core.Path.{_≡_};
 ghost use mathlib.Core.Bool.{true};
 ghost use Prim.Native.Nat.{_+_, _≤_, _<_};
 ghost use lib.ListN.{length, getD};
-ghost use Rattle.cells.specs.Chip.{chip};
-ghost use Rattle.cells.specs.Run.{seen, view};
+ghost use Rattle.cells.specs.Chip.{Chip, chip};
+ghost use Rattle.cells.specs.Run.{seen, view, plus};
 ghost use Rattle.counter.specs.Slots.{two, kindOf};
 ghost use Rattle.counter.specs.Places.{placesGood, fitted};
 ghost use Rattle.counter.specs.Map.{mapIn, pointerOf, sound, reachable};
 ghost use Rattle.counter.specs.Verdict.{_andThen_};
 ghost use Rattle.counter.specs.Reading.{dataAt};
 ghost use Rattle.counter.specs.Store.{mapped, putPointer, trySpares, moveSlot, storeSlot, store};
-ghost use Rattle.counter.specs.Inside.{Holds};
+ghost use Rattle.counter.specs.Inside.{stopped, Holds};
 use super::map::Map;
 use super::map::offset_of;
 use super::map::pointer_of;
@@ -41,6 +41,30 @@ pub struct Stored {
     pub work: Work,
     pub writes: usize,
     pub tried: usize,
+}
+
+// A piece of storing behind work that took so many writes and tries.
+pub(crate) fn behind(writes: usize, tried: usize, stored: Stored) -> Stored
+    requires { ⌜ (writes < 1048576) × (tried < 1048576) × (stored .writes < 1048576) × (stored .tried < 1048576) ⌝ }
+    ensures { λ r. ⌜ ((s : Chip) → seen (r .work) (r .writes) (r .tried) s ≡ plus writes tried (seen (stored .work) (stored .writes) (stored .tried) s)) ⌝ }
+{
+    let work = stored.work;
+    Stored {
+        work,
+        writes: writes + stored.writes,
+        tried: tried + stored.tried,
+    }
+}
+
+// Whether a piece of storing was stopped.
+pub(crate) fn is_stopped(stored: Stored) -> bool
+    ensures { λ r. ⌜ r ≡ stopped (stored .work) ⌝ }
+{
+    let work = stored.work;
+    match work {
+        Work::Done => false,
+        Work::Stopped(_) => true,
+    }
 }
 
 // What a row of map bytes came to: done, or stopped at the byte whose put failed.
@@ -107,15 +131,11 @@ fn move_slot(image: &mut [u8], lives: &mut [u32], p: Places, slot: usize, byte: 
             writes: walked.writes,
             tried: walked.tried,
         },
-        Found::At(a) => {
-            let done = put_pointer(image, lives, p, slot, a);
-            let work = done.work;
-            Stored {
-                work,
-                writes: walked.writes + done.writes,
-                tried: walked.tried,
-            }
-        }
+        Found::At(a) => behind(
+            walked.writes,
+            walked.tried,
+            put_pointer(image, lives, p, slot, a),
+        ),
     }
 }
 
@@ -135,13 +155,7 @@ fn store_slot(image: &mut [u8], lives: &mut [u32], p: Places, slot: usize, byte:
             tried: 0,
         };
     }
-    let moved = move_slot(image, lives, p, slot, byte);
-    let work = moved.work;
-    Stored {
-        work,
-        writes: done.writes + moved.writes,
-        tried: moved.tried,
-    }
+    behind(done.writes, 0, move_slot(image, lives, p, slot, byte))
 }
 
 // A count stored: copy 1, nibbles 0 to 7, then copy 2 the same.
@@ -150,28 +164,24 @@ pub(crate) fn store_count(image: &mut [u8], lives: &mut [u32], p: Places, count:
     ensures { λ r. ⌜ seen (r .work) (r .writes) (r .tried) (chip (now (image .exit)) (now (lives .exit))) ≡ view (store two p count (chip (now (image .entry)) (now (lives .entry)))) ⌝ }
 {
     let word = gray_of(count);
-    let mut writes = 0;
-    let mut tried = 0;
+    let mut done = Stored {
+        work: Work::Done,
+        writes: 0,
+        tried: 0,
+    };
     let mut slot = 0;
     while slot < Map::SLOTS {
-        let stored = store_slot(image, lives, p, slot, code_of(nibble_of(word, slot % 8)));
-        let work = stored.work;
-        writes += stored.writes;
-        tried += stored.tried;
-        if let Work::Stopped(why) = work {
-            return Stored {
-                work: Work::Stopped(why),
-                writes,
-                tried,
-            };
+        done = behind(
+            done.writes,
+            done.tried,
+            store_slot(image, lives, p, slot, code_of(nibble_of(word, slot % 8))),
+        );
+        if is_stopped(done) {
+            break;
         }
         slot += 1;
     }
-    Stored {
-        work: Work::Done,
-        writes,
-        tried,
-    }
+    done
 }
 
 // A count stored, unless all slots are known to hold its codes.
@@ -195,25 +205,12 @@ pub(crate) fn settle(
     store_count(image, lives, p, count)
 }
 
-// A piece of storing, with one write in front of it.
-fn behind_write(stored: Stored) -> Stored
-    requires { ⌜ stored .writes < 65536 ⌝ }
-    ensures { λ r. ⌜ (r .work ≡ stored .work) × (r .writes ≡ 1 + stored .writes) × (r .tried ≡ stored .tried) ⌝ }
-{
-    let work = stored.work;
-    Stored {
-        work,
-        writes: 1 + stored.writes,
-        tried: stored.tried,
-    }
-}
-
 // A byte stored in a slot whose cell is worn and reads another: the put fails, and the byte is moved.
 fn move_worn(image: &mut [u8], lives: &mut [u32], p: Places, slot: usize, byte: u8) -> Stored
     requires { ⌜ (fitted two p (chip (now image) (now lives)) ≡ true) × (sound two p (pointerOf (mapIn two p (now image))) ≡ true) × (slot < 16) × (dataAt (now image) (mapIn two p (now image)) slot ≡ byte → ⊥) × (getD (now lives) (pointerOf (mapIn two p (now image)) slot) 0 ≡ 0) ⌝ }
     ensures { λ r. ⌜ seen (r .work) (r .writes) (r .tried) (chip (now (image .exit)) (now (lives .exit))) ≡ view (storeSlot two p slot byte (chip (now (image .entry)) (now (lives .entry)))) ⌝ }
 {
-    behind_write(move_slot(image, lives, p, slot, byte))
+    behind(1, 0, move_slot(image, lives, p, slot, byte))
 }
 
 // A byte stored in both slots of a nibble, where the first one's cell is worn and reads another.
@@ -222,21 +219,14 @@ fn move_first(image: &mut [u8], lives: &mut [u32], p: Places, nibble: usize, byt
     ensures { λ r. ⌜ seen (r .work) (r .writes) (r .tried) (chip (now (image .exit)) (now (lives .exit))) ≡ view (storeSlot two p nibble byte (chip (now (image .entry)) (now (lives .entry))) andThen storeSlot two p (8 + nibble) byte) ⌝ }
 {
     let first = move_worn(image, lives, p, nibble, byte);
-    let work = first.work;
-    if let Work::Stopped(why) = work {
-        return Stored {
-            work: Work::Stopped(why),
-            writes: first.writes,
-            tried: first.tried,
-        };
+    if is_stopped(first) {
+        return first;
     }
-    let second = store_slot(image, lives, p, 8 + nibble, byte);
-    let work = second.work;
-    Stored {
-        work,
-        writes: first.writes + second.writes,
-        tried: first.tried + second.tried,
-    }
+    behind(
+        first.writes,
+        first.tried,
+        store_slot(image, lives, p, 8 + nibble, byte),
+    )
 }
 
 // The cells of a nibble, in copy 1 and in copy 2.
@@ -270,7 +260,7 @@ fn store_both(image: &mut [u8], lives: &mut [u32], p: Places, nibble: usize, byt
     }
     write(image, lives, one, byte);
     if lives[other] == 0 {
-        return behind_write(move_worn(image, lives, p, 8 + nibble, byte));
+        return behind(1, 0, move_worn(image, lives, p, 8 + nibble, byte));
     }
     write(image, lives, other, byte);
     Stored {

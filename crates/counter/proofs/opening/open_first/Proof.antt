@@ -1,5 +1,5 @@
 -- `opening::open_first` meets its contract: all addresses are taken, and then the map is put.
-use mathlib.Core.Path.{_≡_, refl, sym}
+use mathlib.Core.Path.{_≡_, refl, sym, _∙_}
 use borrow.Author.Needs.{needs}
 use native.Mathlib.Omega.{arith}
 use lib.ListN.{length, take, length-map}
@@ -19,8 +19,8 @@ same-length-2 c = search needs
 
 returns : tie.Need-returns
 returns c =
-    let took = c .before .before .before .before .before .before in
-    sym (opening-roomless _ _ (took .take-addresses .ensures) (served-some _ (c .if1 .taken)))
+    let ended = served-some _ (c .if1 .taken) in
+    sym (opening-roomless _ _ (c .before .before .before .before .before .before .take-addresses .ensures) (rw ended) ∙ rw ended)
 
 -- the array has its sixteen elements
 sixteen : (c : tie.After-take-addresses) → length (c .take-addresses .result .addresses) ≡ 16
@@ -30,7 +30,7 @@ sixteen c = simp length-map at (c .take-addresses .ok .1 .1 .0 .1 .0 .1)
 whole : (c : tie.Else1) → let r = c .before .before .before .before .before .before .take-addresses .result in take (r .count) (r .addresses) ≡ r .addresses
 whole c =
     let took = c .before .before .before .before .before .before in
-    taken-whole _ _ (took .take-addresses .ensures) (fitted-ready (took .before .before .before .before .before .pre)) (served-all _ (c .if1 .left)) (took .take-addresses .result .count) _ refl (sixteen took)
+    taken-whole _ _ (took .take-addresses .ensures) (fitted-ready (took .before .before .before .before .before .pre)) (rw (served-all _ (c .if1 .left))) (took .take-addresses .result .count) _ refl (sixteen took)
 
 put-map-requires : tie.Need-put-map-requires
 put-map-requires c κs =
@@ -39,19 +39,17 @@ put-map-requires c κs =
     let ready = fitted-ready (took .before .before .before .before .before .pre) in (
       ready-fitted (ready-same ready (took .take-addresses .kept .0) (took .take-addresses .kept .1 .0)),
       sixteen took,
-      λ k l. rw (whole served) at (taken-reach _ _ (took .take-addresses .ensures) ready (served-all _ (served .if1 .left)) k l),
+      λ k l. rw (whole served) at (taken-reach _ _ (took .take-addresses .ensures) ready (rw (served-all _ (served .if1 .left))) k l),
     )
 
-add-t21 : tie.Need-add-t21
-add-t21 c =
-    let map = c .before .before .before .before .before .before in
+behind-requires : tie.Need-behind-requires
+behind-requires c κs =
+    let map = c .before .before .before .before in
     let took = map .before .before .before .before .before .before .before .before .before .before in
-    omega (
-      arith,
-      taking-few _ _ (took .take-addresses .ensures) (fitted-ready (took .before .before .before .before .before .pre)),
-      map-few _ _ _ (map .put-map .ensures) .0,
-      sixteen took,
-    )
+    let few = taking-few _ _ (took .take-addresses .ensures) (fitted-ready (took .before .before .before .before .before .pre)) in
+    let rest = map-few _ _ _ (map .put-map .ensures) in
+    let size = sixteen took in
+    (omega arith, omega arith, omega arith, omega arith)
 
 same-length-3 : tie.Need-same-length-3
 same-length-3 c = search needs
@@ -61,10 +59,10 @@ same-length-4 c = search needs
 
 returns-2 : tie.Need-returns-2
 returns-2 c =
-    let map = c .before .before .before .before .before .before in
+    let map = c .before .before .before .before .before in
     let served = map .before .before .before .before in
     let took = served .before .before .before .before .before .before in
-    sym (opening-mapped _ _ (took .take-addresses .ensures) (served-all _ (served .if1 .left)) (whole served) (map .put-map .ensures))
+    c .behind .ensures _ ∙ sym (opening-mapped _ _ (took .take-addresses .ensures) (rw (served-all _ (served .if1 .left))) (whole served) (map .put-map .ensures))
 
 pub open-first-spec : {M : Type 1} → statement M
 open-first-spec =
@@ -75,7 +73,7 @@ open-first-spec =
     same-length-2
     returns
     put-map-requires
-    add-t21
+    behind-requires
     same-length-3
     same-length-4
     returns-2)

@@ -19,8 +19,8 @@ part-put-row-end c = search needs
 put-row-requires : tie.Need-put-row-requires
 put-row-requires c κs = search needs
 
-enum-known-failed : tie.Need-enum-known-failed
-enum-known-failed c = search needs
+enum-told : tie.Need-enum-told
+enum-told c = search needs
 
 same-length : tie.Need-same-length
 same-length c = search needs
@@ -29,12 +29,10 @@ same-length-2 : tie.Need-same-length-2
 same-length-2 c = search needs
 
 returns : tie.Need-returns
-returns c =
-    let row = c .before .before .before .before .before .before .before in
-    sym (row-first-failed _ 11 _ _ (row .put-row .ensures) _ (c .before .failed .given .1))
+returns c = sym (row-first-failed _ 11 _ _ (c .before .before .before .before .before .before .put-row .ensures) _ (c .enum-told .given .1))
 
-enum-told : tie.Need-enum-told
-enum-told c = search needs
+enum-told-2 : tie.Need-enum-told-2
+enum-told-2 c = search needs
 
 add-put-row : tie.Need-add-put-row
 add-put-row c = search needs
@@ -51,8 +49,8 @@ part-put-row-end-2 c = search needs
 put-row-requires-2 : tie.Need-put-row-requires-2
 put-row-requires-2 c κs = search needs
 
-add-t15 : tie.Need-add-t15
-add-t15 c =
+add-t14 : tie.Need-add-t14
+add-t14 c =
     let second = c .before .before .before .before .before .before in
     let first = second .before .before .before .before .before .before .before .before .before .before in
     omega (arith, row-few _ _ _ (first .put-row .ensures), row-few _ _ _ (second .put-row2 .ensures))
@@ -67,7 +65,7 @@ returns-2 : tie.Need-returns-2
 returns-2 c =
     let second = c .before .before .before .before .before .before in
     let first = second .before .before .before .before .before .before .before .before .before .before in
-    sym (row-first-held _ 11 _ _ (first .put-row .ensures) (first .before .before .before .before .before .before .before .pre .2) (second .before .before .before .before .enum-told .given .1) ∙ ap (plus _ _) (sym (second .put-row2 .ensures)))
+    sym (row-first-held _ 11 _ _ (first .put-row .ensures) (first .before .before .before .before .before .before .before .pre .2) (second .before .before .before .before .enum-told2 .given .1) ∙ ap (plus _ _) (sym (second .put-row2 .ensures)))
 
 pub put-copies-spec : {M : Type 1} → statement M
 put-copies-spec =
@@ -77,17 +75,17 @@ put-copies-spec =
     part-put-row-start
     part-put-row-end
     put-row-requires
-    enum-known-failed
+    enum-told
     same-length
     same-length-2
     returns
-    enum-told
+    enum-told-2
     add-put-row
     sub-put-row-2
     part-put-row-start-2
     part-put-row-end-2
     put-row-requires-2
-    add-t15
+    add-t14
     same-length-3
     same-length-4
     returns-2)

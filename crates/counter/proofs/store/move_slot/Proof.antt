@@ -1,5 +1,5 @@
 -- `store::move_slot` meets its contract: the gap is that of the map, and what the spares come to says how it ends.
-use mathlib.Core.Path.{_≡_, sym}
+use mathlib.Core.Path.{_≡_, sym, _∙_}
 use borrow.Author.Needs.{needs}
 use native.Mathlib.Omega.{arith}
 use denote.Ref.{now}
@@ -56,12 +56,16 @@ put-pointer-requires c κs =
     let held = spare-held 2 (s .args .p) (s .args .slot) (s .args .byte) _ (gap-here (c .before .before .before .before .before .before .before .before .before .before .before .before)) (c .before .before .before .before .before .before .before .before .before .try-spares .ensures) (fitted-ready (s .pre .0)) (c .before .before .before .found .given .1) in
     (ready-fitted (held .ready), s .pre .2, held .small, held .reach)
 
-add-t27 : tie.Need-add-t27
-add-t27 c =
-    let tries = tries-few _ _ _ _ (c .before .before .before .before .before .before .before .before .before .before .before .before .before .before .before .before .try-spares .ensures) in
-    let pointer = pointer-few _ _ _ _ (c .before .before .before .before .before .before .put-pointer .ensures) in
-    let fits = gap-fits-here (c .before .before .before .before .before .before .before .before .before .before .before .before .before .before .before .before .before .before .before) in
-    omega (arith, ready-short (fitted-ready (c .before .before .before .before .before .before .before .before .before .before .before .before .before .before .before .before .before .before .before .before .before .before .before .before .before .pre .0)))
+behind-requires : tie.Need-behind-requires
+behind-requires c κs =
+    let pointer = c .before .before .before .before in
+    let spares = pointer .before .before .before .before .before .before .before .before .before .before in
+    let s = spares .before .before .before .before .before .before .before .before .before in
+    let tries = tries-few _ _ _ _ (spares .try-spares .ensures) in
+    let put = pointer-few _ _ _ _ (pointer .put-pointer .ensures) in
+    let fits = gap-fits-here (spares .before .before .before) in
+    let short = ready-short (fitted-ready (s .pre .0)) in
+    (omega arith, omega arith, omega arith, omega arith)
 
 same-length : tie.Need-same-length
 same-length c = search needs
@@ -79,7 +83,11 @@ same-length-4 : tie.Need-same-length-4
 same-length-4 c = search needs
 
 returns-2 : tie.Need-returns-2
-returns-2 c = sym (move-at 2 _ _ _ _ (gap-here (c .before .before .before .before .before .before .before .before .before .before .before .before .before .before .before .before .before .before .before)) (c .before .before .before .before .before .before .before .before .before .before .before .before .before .before .before .before .try-spares .ensures) (c .before .before .before .before .before .before .before .before .before .before .found .given .1) (c .before .before .before .before .before .before .put-pointer .ensures))
+returns-2 c =
+    let pointer = c .before .before .before .before .before in
+    let spares = pointer .before .before .before .before .before .before .before .before .before .before in
+    c .behind .ensures _
+    ∙ sym (move-at 2 _ _ _ _ (gap-here (spares .before .before .before)) (spares .try-spares .ensures) (pointer .before .before .before .before .found .given .1) (pointer .put-pointer .ensures))
 
 pub move-slot-spec : {M : Type 1} → statement M
 move-slot-spec =
@@ -92,7 +100,7 @@ move-slot-spec =
     enum-told
     enum-known-found
     put-pointer-requires
-    add-t27
+    behind-requires
     same-length
     same-length-2
     returns

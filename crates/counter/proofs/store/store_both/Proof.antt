@@ -14,7 +14,7 @@ use Rattle.counter.proofs.SoundPointers.{test-sound, sound-test}
 use Rattle.counter.proofs.Ready.{pointers, inside-cell}
 use Rattle.counter.proofs.Fitted.{fitted-ready, ready-fitted, ready-short}
 use Rattle.counter.proofs.StoreCosts.{slot-few}
-use Rattle.counter.proofs.Written.{Left, slot-written, written-then, written-left, said-behind}
+use Rattle.counter.proofs.Written.{Left, slot-written, written-then, written-left}
 use borrow.Author.Needs.{needs}
 use Rattle.counter.proofs.store.store_both.Statement.{statement}
 use Rattle.counter.proofs.store.store_both.Tie as tie
@@ -124,12 +124,12 @@ move-worn-requires c κs =
     let low = one .before .before .before .before .before .before .before .before .before .pre .2 in
     (ready-fitted (left one .ready), sound-test two _ _ (left one .sound), omega arith, left one .other, rw (there one) (c .before .before .if2 .taken))
 
-behind-write-requires : tie.Need-behind-write-requires
-behind-write-requires c κs =
+behind-requires : tie.Need-behind-requires
+behind-requires c κs =
     let call = c .before .before .before .before in
     let one = call .before .before .before .before .before .before .before .before .before in
-    let few = slot-few (left one .ready) _ _ (call .move-worn .ensures) .0 in
-    omega arith
+    let few = slot-few (left one .ready) _ _ (call .move-worn .ensures) in
+    (omega arith, omega arith, omega arith, omega arith)
 
 same-length-3 : tie.Need-same-length-3
 same-length-3 c = search needs
@@ -141,7 +141,7 @@ returns-2 : tie.Need-returns-2
 returns-2 c =
     let call = c .before .before .before .before .before in
     let one = call .before .before .before .before .before .before .before .before .before in
-    said-behind _ (c .behind-write .ensures) ∙ ap (plus 1 0) (call .move-worn .ensures) ∙ sym (behind one)
+    c .behind .ensures _ ∙ ap (plus 1 0) (call .move-worn .ensures) ∙ sym (behind one)
 
 write-requires-2 : tie.Need-write-requires-2
 write-requires-2 c κs =
@@ -184,7 +184,7 @@ store-both-spec =
     slice-read-if2
     add-move-worn
     move-worn-requires
-    behind-write-requires
+    behind-requires
     same-length-3
     same-length-4
     returns-2

@@ -1,41 +1,47 @@
 -- `store::store_count` meets its contract. Whenever the loop's test is reached, the store comes to what is left of it, behind
 -- the writes asked and the spares tried so far, few for each slot. The measure is the number of slots left.
-use Prim.Native.Nat.{_-_, _*_, _%_, _≤_}
+use Prim.Native.Nat.{_+_, _-_, _*_, _%_, _≤_}
 use mathlib.Core.Path.{_≡_, refl, sym, ap, _∙_}
-use mathlib.Core.Bool.{true}
+use mathlib.Core.Bool.{true, false}
+use mathlib.Core.List.{[]}
 use borrow.Author.Needs.{needs}
 use native.Mathlib.Omega.{arith}
 use lib.ListN.{length}
 use Rattle.code.specs.Codes.{codeOf}
 use Rattle.code.specs.Nibbles.{nibbleOf}
 use Rattle.cells.specs.Chip.{chip}
-use Rattle.cells.specs.Run.{view, plus}
+use Rattle.cells.specs.Run.{Seen, view, plus}
 use Rattle.cells.proofs.Views.{plus-plus}
+use Rattle.counter.specs.declared.verdict.Work.{Work}
+use Rattle.counter.specs.declared.verdict.Work.the-variants.{Done}
 use Rattle.counter.specs.Places.{fitted}
 use Rattle.counter.specs.Map.{sound}
 use Rattle.counter.specs.Store.{slotCode, store}
+use Rattle.counter.specs.Inside.{stopped}
 use Rattle.counter.proofs.Ready.{pointers}
 use Rattle.counter.proofs.Fitted.{fitted-ready}
+use Rattle.counter.proofs.Behind.{stopped-not}
 use Rattle.counter.proofs.StoreViews.{slot-settled, storeLeft, store-left-all, store-left-none, store-left-done, store-left-stopped}
 use Rattle.counter.proofs.StoreCosts.{slot-few}
 use Rattle.counter.proofs.store.store_count.Statement.{statement}
 use Rattle.counter.proofs.store.store_count.Tie as tie
 
 abbrev Inv-loop : tie.InvT-loop
-Inv-loop image₀ lives₀ p count word writes₀ tried₀ slot₀ image lives writes tried slot =
+Inv-loop image₀ lives₀ p count word done₀ slot₀ image lives done slot =
     record {
       most : slot ≤ 16;
-      few : writes ≤ 4099 * slot;
-      tries : tried ≤ 4096 * slot;
+      work : done .work ≡ Done;
+      few : done .writes ≤ 4099 * slot;
+      tries : done .tried ≤ 4096 * slot;
       cells-kept : length image ≡ length image₀;
       lives-kept : length lives ≡ length lives₀;
       good : fitted 2 p (chip image lives) ≡ true;
       well : sound 2 p (pointers 2 p (chip image lives)) ≡ true;
-      rest : view (store 2 p count (chip image₀ lives₀)) ≡ plus writes tried (view (storeLeft 2 p count slot (chip image lives)));
+      rest : view (store 2 p count (chip image₀ lives₀)) ≡ plus (done .writes) (done .tried) (view (storeLeft 2 p count slot (chip image lives)));
     }
 
 abbrev μ-loop : tie.MeasureT-loop
-μ-loop image₀ lives₀ p count word writes₀ tried₀ slot₀ image lives writes tried slot = 16 - slot
+μ-loop image₀ lives₀ p count word done₀ slot₀ image lives done slot = 16 - slot
 
 gray-of-requires : tie.Need-gray-of-requires Inv-loop μ-loop
 gray-of-requires c κs = search needs
@@ -44,6 +50,7 @@ loop-holds : tie.Need-loop-holds Inv-loop μ-loop
 loop-holds c =
     record {
       most = omega arith;
+      work = refl;
       few = omega arith;
       tries = omega arith;
       cells-kept = refl;
@@ -71,14 +78,57 @@ store-slot-requires c κs = let inv = c .before .before .before .before .before 
 few-here : (c : tie.After-store-slot Inv-loop μ-loop) → (c .store-slot .result .writes ≤ 4099) × (c .store-slot .result .tried ≤ 4096)
 few-here c = slot-few (fitted-ready (c .before .before .before .before .before .before .loop .inv .good)) _ _ (c .store-slot .ensures)
 
-add-writes : tie.Need-add-writes Inv-loop μ-loop
-add-writes c = let inv = c .before .before .before .before .before .before .before .before .before .before .before .loop .inv in omega (arith, few-here (c .before .before .before .before .before))
+behind-requires : tie.Need-behind-requires Inv-loop μ-loop
+behind-requires c κs =
+    let inv = c .before .before .before .before .before .before .before .before .before .before .loop .inv in
+    let inside = c .before .before .before .before .before .before .before .before .before .loop-test .taken in
+    let few = few-here (c .before .before .before .before) in
+    (omega arith, omega arith, omega arith, omega arith)
 
-add-tried : tie.Need-add-tried Inv-loop μ-loop
-add-tried c = let inv = c .before .before .before .before .before .before .before .before .before .before .before .before .loop .inv in omega (arith, few-here (c .before .before .before .before .before .before))
+is-stopped-requires : tie.Need-is-stopped-requires Inv-loop μ-loop
+is-stopped-requires c κs = search needs
 
-enum-known-work : tie.Need-enum-known-work Inv-loop μ-loop
-enum-known-work c = search needs
+add-slot : tie.Need-add-slot Inv-loop μ-loop
+add-slot c = search needs
+
+loop-less : tie.Need-loop-less Inv-loop μ-loop
+loop-less c = search needs
+
+-- what the slot came to, behind the work before it
+sum : (c : tie.After-behind Inv-loop μ-loop) → let call = c .before .before .before .before .before in
+    let before = call .before .before .before .before .before .before .loop .done in
+    let r = call .store-slot .result in
+    (c .behind .result .work ≡ r .work) × (c .behind .result .writes ≡ before .writes + r .writes) × (c .behind .result .tried ≡ before .tried + r .tried)
+sum c =
+    let said = c .behind .ensures (chip [] []) in
+    (ap (λ (v : Seen Work). v .answer) said, ap (λ (v : Seen Work). v .writes) said, ap (λ (v : Seen Work). v .tried) said)
+
+loop-again : tie.Need-loop-again Inv-loop μ-loop
+loop-again c =
+    let behind = c .before .before in
+    let call = behind .before .before .before .before .before in
+    let loop = call .before .before .before .before .before .before .loop in
+    let inside = call .before .before .before .before .before .loop-test .taken in
+    let few = few-here call in
+    let said = sum behind in
+    let going = sym (said .0) in
+    let done : stopped (call .store-slot .result .work) ≡ false = ap stopped going ∙ sym (c .before .is-stopped .ensures) ∙ c .if1 .left in
+    let settled = slot-settled 2 _ _ (loop .inv .good) (loop .inv .well) _ _ inside (call .store-slot .ensures) done in
+    record {
+      most = omega arith;
+      work = said .0 ∙ stopped-not _ done;
+      few = omega arith;
+      tries = omega arith;
+      cells-kept = search needs;
+      lives-kept = search needs;
+      good = settled .0;
+      well = settled .1;
+      rest =
+          rw (said .1, said .2)
+          (loop .inv .rest
+          ∙ ap (plus (loop .done .writes) (loop .done .tried)) (store-left-done 2 _ _ _ _ inside (code-here (call .before)) (call .store-slot .ensures) done)
+          ∙ plus-plus (loop .done .writes) (loop .done .tried) (call .store-slot .result .writes) (call .store-slot .result .tried) _);
+    }
 
 same-length : tie.Need-same-length Inv-loop μ-loop
 same-length c = search needs
@@ -88,41 +138,8 @@ same-length-2 c = search needs
 
 returns : tie.Need-returns Inv-loop μ-loop
 returns c =
-    let loop = c .before .before .before .before .before .before .before .before .before .before .before .before .before .before .before .loop in
-    sym
-    (loop .inv .rest
-    ∙ ap (plus (loop .writes) (loop .tried)) (store-left-stopped 2 _ _ _ _ (c .before .before .before .before .before .before .before .before .before .before .before .before .before .before .loop-test .taken) (code-here (c .before .before .before .before .before .before .before .before .before .before)) (c .before .before .before .before .before .before .before .before .before .store-slot .ensures) (c .before .work .given .1)))
-
-enum-told : tie.Need-enum-told Inv-loop μ-loop
-enum-told c = search needs
-
-add-slot : tie.Need-add-slot Inv-loop μ-loop
-add-slot c = search needs
-
-loop-less : tie.Need-loop-less Inv-loop μ-loop
-loop-less c = search needs
-
-loop-again : tie.Need-loop-again Inv-loop μ-loop
-loop-again c =
-    let loop = c .before .before .before .before .before .before .before .before .before .before .before .before .before .before .loop in
-    let call = c .before .before .before .before .before .before .before .before in
-    let few = few-here call in
-    let inside = c .before .before .before .before .before .before .before .before .before .before .before .before .before .loop-test .taken in
-    let done = c .enum-told .given .1 in
-    let settled = slot-settled 2 _ _ (loop .inv .good) (loop .inv .well) _ _ inside (call .store-slot .ensures) done in
-    record {
-      most = omega arith;
-      few = omega arith;
-      tries = omega arith;
-      cells-kept = search needs;
-      lives-kept = search needs;
-      good = settled .0;
-      well = settled .1;
-      rest =
-          loop .inv .rest
-          ∙ ap (plus (loop .writes) (loop .tried)) (store-left-done 2 _ _ _ _ inside (code-here (c .before .before .before .before .before .before .before .before .before)) (call .store-slot .ensures) done)
-          ∙ plus-plus (loop .writes) (loop .tried) (call .store-slot .result .writes) (call .store-slot .result .tried) _;
-    }
+    let loop = c .before .loop in
+    rw (loop .inv .work) (sym (loop .inv .rest ∙ store-left-none 2 _ _ _ _ (loop .slot) _ (omega arith)))
 
 same-length-3 : tie.Need-same-length-3 Inv-loop μ-loop
 same-length-3 c = search needs
@@ -131,7 +148,14 @@ same-length-4 : tie.Need-same-length-4 Inv-loop μ-loop
 same-length-4 c = search needs
 
 returns-2 : tie.Need-returns-2 Inv-loop μ-loop
-returns-2 c = sym (c .before .loop .inv .rest ∙ store-left-none 2 _ _ _ _ (c .before .loop .slot) _ (omega arith))
+returns-2 c =
+    let behind = c .before .before in
+    let call = behind .before .before .before .before .before in
+    let loop = call .before .before .before .before .before .before .loop in
+    let halt : stopped (call .store-slot .result .work) ≡ true = ap stopped (sym (sum behind .0)) ∙ sym (c .before .is-stopped .ensures) ∙ c .if1 .taken in
+    behind .behind .ensures _
+    ∙ ap (plus (loop .done .writes) (loop .done .tried)) (sym (store-left-stopped 2 _ _ _ _ (call .before .before .before .before .before .loop-test .taken) (code-here (call .before)) (call .store-slot .ensures) halt))
+    ∙ sym (loop .inv .rest)
 
 pub store-count-spec : {M : Type 1} → statement M
 store-count-spec =
@@ -144,16 +168,14 @@ store-count-spec =
     nibble-of-requires
     code-of-requires
     store-slot-requires
-    add-writes
-    add-tried
-    enum-known-work
-    same-length
-    same-length-2
-    returns
-    enum-told
+    behind-requires
+    is-stopped-requires
     add-slot
     loop-less
     loop-again
+    same-length
+    same-length-2
+    returns
     same-length-3
     same-length-4
     returns-2)

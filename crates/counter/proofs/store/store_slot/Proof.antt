@@ -65,12 +65,14 @@ move-slot-requires c κs =
     let same = same-chip (c .before .before) in
     (ap (fitted 2 (s .args .p)) same ∙ s .pre .0, ap (λ (t : Chip). sound 2 (s .args .p) (pointers 2 (s .args .p) t)) same ∙ s .pre .1, s .pre .2)
 
-add-t13 : tie.Need-add-t13
-add-t13 c =
-    let put = put-few _ _ _ (c .before .before .before .before .before .before .before .before .before .before .before .before .before .before .put .ensures) in
-    let ready = fitted-ready (ap (fitted 2 (c .before .before .before .before .before .before .before .before .before .before .before .before .before .before .before .before .before .before .before .before .before .before .args .p)) (same-chip (c .before .before .before .before .before .before .before .before .before)) ∙ c .before .before .before .before .before .before .before .before .before .before .before .before .before .before .before .before .before .before .before .before .before .before .pre .0) in
-    let moved = move-few ready _ _ (c .before .before .before .before .before .before .move-slot .ensures) in
-    omega arith
+behind-requires : tie.Need-behind-requires
+behind-requires c κs =
+    let failed = c .before .before .before .before .before .before .before in
+    let s = failed .before .before .before .before .before .before .before .before .before .before .before .before .before in
+    let put = put-few _ _ _ (failed .before .before .before .before .before .put .ensures) in
+    let ready = fitted-ready (ap (fitted 2 (s .args .p)) (same-chip failed) ∙ s .pre .0) in
+    let moved = move-few ready _ _ (c .before .before .before .before .move-slot .ensures) in
+    (omega arith, omega arith, omega arith, omega arith)
 
 same-length-3 : tie.Need-same-length-3
 same-length-3 c = search needs
@@ -79,7 +81,11 @@ same-length-4 : tie.Need-same-length-4
 same-length-4 c = search needs
 
 returns-2 : tie.Need-returns-2
-returns-2 c = sym (slot-moved 2 _ _ _ _ (pointer-here (c .before .before .before .before .before .before .before .before .before .before .before .before .before .before .before .before .before)) (c .before .before .before .before .before .before .before .before .before .before .before .before .before .before .put .ensures) (c .before .before .before .before .before .before .before .before .before .if1 .left) (c .before .before .before .before .before .before .move-slot .ensures))
+returns-2 c =
+    let failed = c .before .before .before .before .before .before .before .before in
+    let put = failed .before .before .before .before .before in
+    c .behind .ensures _
+    ∙ sym (slot-moved 2 _ _ _ _ (pointer-here (put .before .before .before)) (put .put .ensures) (failed .if1 .left) (c .before .before .before .before .before .move-slot .ensures))
 
 pub store-slot-spec : {M : Type 1} → statement M
 store-slot-spec =
@@ -95,7 +101,7 @@ store-slot-spec =
     same-length-2
     returns
     move-slot-requires
-    add-t13
+    behind-requires
     same-length-3
     same-length-4
     returns-2)

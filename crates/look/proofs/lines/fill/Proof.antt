@@ -1,6 +1,5 @@
 -- `fill` meets its contract: its four lines, one after another, are the text of the answer.
 use Prim.Native.Nat.{_+_, _≤_}
-use mathlib.Core.Path.{_∙_}
 use native.Mathlib.Omega.{arith}
 use lib.ListN.{length}
 use mir.Syntax.{w64}
