@@ -1,6 +1,6 @@
 #!/bin/sh
-# tests/promised.sh: every public function of a library crate has an `ensures`, no door of the counter or for C has a `requires`,
-# and of each public function of code, cells and counter it is proved that its contract leaves one answer.
+# tests/promised.sh: every public function of a library crate has an `ensures`, and it is proved that its contract leaves one answer;
+# no door of the counter or for C has a `requires`; and no definition but the inside's own rests on the counter's specs/Inside.antt.
 set -eu
 cd "$(dirname "$0")/.."
 
@@ -14,11 +14,16 @@ heads() {
     ' "$@"
 }
 
-for crate in crates/*/; do
-    [ ! -f "$crate/src/lib.rt" ] || heads "$crate"src/*.rt
-done | grep -v ensures && { echo 'promised: these promise nothing'; exit 1; }
+public() {
+    for crate in crates/*/; do
+        [ ! -f "$crate/src/lib.rt" ] || heads "$crate"src/*.rt
+    done
+}
+
+public | grep -v ensures && { echo 'promised: these promise nothing'; exit 1; }
 heads crates/counter/src/doors.rt crates/lyre/src/lib.rt | grep requires && { echo 'promised: these ask something'; exit 1; }
-heads crates/code/src/*.rt crates/cells/src/*.rt crates/counter/src/*.rt | awk '{ gsub("_", "-", $2); print $2 }' | while read -r name; do
+public | awk '{ gsub("_", "-", $2); print $2 }' | while read -r name; do
     grep -q "^ *pub $name-one : Sole " crates/promises/proofs/NoSecond.antt || echo "$name"
 done | grep . && { echo 'promised: of these it is not proved that they leave one answer'; exit 1; }
-echo 'promised: every public function of a library promises, those of the three crates leave one answer, and no door asks'
+grep -l 'specs\.Inside' crates/*/specs/*.antt && { echo 'promised: these rest on the inside'; exit 1; }
+echo 'promised: every public function of a library promises and leaves one answer, and no door asks'

@@ -13,7 +13,7 @@ use lib.Pow.{pow-pos}
 use lib.Bits.{bitOr, bitXor, or-step, or-shr, or-zero-r, or-add-and, and-le-l, and-le-r, xor-zero-l}
 use lib.Count.{ones, ones-step}
 use Rattle.code.proofs.XorLaws.{xor-back}
-use Rattle.counter.specs.Inside.{Apart}
+use Rattle.counter.specs.Inside.{Differ}
 
 pub or-left : (a b : ℕ) → a ≤ bitOr a b
 or-left a b = let sum = or-add-and a b in let h = and-le-r a b in omega arith
@@ -68,7 +68,7 @@ ones-mark (suc b) x =
 pub record Marks (Of : ℕ → Type 0) (many : ℕ) (place : ℕ → ℕ) (word : ℕ) : Type 0 where
   pub few : ones word ≤ many
   pub marks : (k : ℕ) → Of k → word / 2 ^ place k % 2 ≡ 1
-  pub apart : ones word ≡ many → Apart Of place
+  pub apart : ones word ≡ many → Differ Of place
 
 pub marks-none : (Of : ℕ → Type 0) (place : ℕ → ℕ) → ((k : ℕ) → Of k → ⊥) → Marks Of 0 place 0
 unfolding ones

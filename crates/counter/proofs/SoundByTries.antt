@@ -18,7 +18,7 @@ use Rattle.counter.specs.declared.places.Places.{Places}
 use Rattle.counter.specs.Slots.{two, slots, kindOf, every}
 use Rattle.counter.specs.Map.{sound}
 use Rattle.counter.specs.Spares.{gapTo, mayTry}
-use Rattle.counter.specs.Inside.{Among, Apart}
+use Rattle.counter.specs.Inside.{Among, Differ}
 use Rattle.counter.proofs.RangeTests.{every-all, all-every, never}
 use Rattle.counter.proofs.Offsets.{kind-low, kind-high}
 use Rattle.counter.proofs.SoundPointers.{Inside, Sound, test-sound, sound-test, below-apart}
@@ -165,7 +165,7 @@ module _ (p : Places) (pointer : ℕ → ℕ) (x : ℕ)
 
 -- pointers in order differ where those of each kind do
 pub spread-sound :
-    (p : Places) (pointer : ℕ → ℕ) → every 16 (follows two p pointer) ≡ true → Apart (Among 0 3) pointer → Apart (Among 3 8) pointer
+    (p : Places) (pointer : ℕ → ℕ) → every 16 (follows two p pointer) ≡ true → Differ (Among 0 3) pointer → Differ (Among 3 8) pointer
     → sound two p pointer ≡ true
 spread-sound p pointer tries lows highs =
     tries-sound two p pointer tries

@@ -1,7 +1,7 @@
 -- Spares tried: what it keeps, what it changes, what it costs.
 --   room                      the cells between the pointers of the two kinds
 --   spares-room               the spares are no more than the room
---   Missing                   no spare holds: each was asked and refuses, and the chip is as it was
+--   Missing                   no spare holds: each refuses, and the chip is as it was
 --   Landing                   a spare holds: the chip is that one put from the start
 --   Trying, TryLaws, try-laws
 --   try-nowhere               no spare holds exactly where each refuses

@@ -18,7 +18,7 @@ use Rattle.cells.specs.Chip.{pick}
 use Rattle.counter.specs.declared.reading.Fault.the-variants.{Twofold, LostInAll}
 use Rattle.counter.specs.declared.verdict.Refusal.the-variants.{TwoCodes, LostNibble}
 use Rattle.counter.specs.Slots.{two, every, some, lowest}
-use Rattle.counter.specs.Reading.{lent, nibbleIn, countIn, twofoldAt, lostAt, decide, onFound, weigh}
+use Rattle.counter.specs.Reading.{firstRead, nibbleIn, countIn, twofoldAt, lostAt, decide, onFound, weigh}
 use Rattle.counter.specs.Inside.{amiss}
 use Rattle.counter.proofs.RangeTests.{every-same, some-same, lowest-same, tabulate-same}
 
@@ -33,7 +33,7 @@ kept r = go (isLost r) refl
 -- a nibble of one copy takes the other's where it is lost
 pub nibble-two : (reading : ℕ → Reading) (copy n : ℕ) → copy < 2
     → nibbleIn two reading copy n ≡ pick (isLost (reading (8 * copy + n))) (nibbleRead (reading (8 - 8 * copy + n))) (nibbleRead (reading (8 * copy + n)))
-unfolding nibbleIn lent
+unfolding nibbleIn firstRead
 nibble-two reading zero n l = go (isLost (reading (0 + n))) refl
   where
     go : (b : Bool) → isLost (reading (0 + n)) ≡ b

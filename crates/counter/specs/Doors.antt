@@ -16,7 +16,7 @@ use Rattle.counter.specs.declared.verdict.Verdict.{Verdict}
 use Rattle.counter.specs.declared.verdict.Verdict.the-variants.{Good, Refused}
 use Rattle.counter.specs.declared.verdict.Refusal.the-variants.{BadLength, UnsoundMap, BadCopy, LastCount}
 use Rattle.counter.specs.Slots.{two, _and_}
-use Rattle.counter.specs.Places.{livesGood, fitted}
+use Rattle.counter.specs.Places.{copyCells, livesGood, fitted}
 use Rattle.counter.specs.Map.{mapIn, marked, pointerOf, sound, partAt}
 use Rattle.counter.specs.Verdict.{Outcome, outcome, outcomeOf, refusalOf, answerOf, onGood, _endingIn_, _andThen_}
 use Rattle.counter.specs.Reading.{unless, guarded, verdictOf}
@@ -86,7 +86,7 @@ partVerdict copies p cells copy =
 
 -- the eleven cells of a copy, or, on a refusal, an empty part
 abbrev pub partOn : Verdict → Places → ℕ → Part
-partOn (Good count lag) p copy = part 0 (p .map + partAt (copy - 1)) 11
+partOn (Good count lag) p copy = part 0 (p .map + partAt (copy - 1)) copyCells
 partOn (Refused why) p copy = part (refusalOf why 0 0 .code) 0 0
 
 unfoldable pub mapPartOf : ℕ → Places → List ℕ → ℕ → Part

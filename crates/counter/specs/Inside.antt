@@ -34,8 +34,8 @@ abbrev pub Among : ℕ → ℕ → ℕ → Type 0
 Among from to k = (k < slots two) × (from ≤ k % 8) × (k % 8 < to)
 
 -- no two of such numbers have the same value
-abbrev pub Apart : (ℕ → Type 0) → (ℕ → ℕ) → Type 0
-Apart Of value = (i j : ℕ) → Of i → Of j → (i ≡ j → ⊥) → value i ≡ value j → ⊥
+abbrev pub Differ : (ℕ → Type 0) → (ℕ → ℕ) → Type 0
+Differ Of value = (i j : ℕ) → Of i → Of j → (i ≡ j → ⊥) → value i ≡ value j → ⊥
 
 -- the pointers, or the bytes, of all slots, given as a list
 abbrev pub listed : List ℕ → ℕ → ℕ

@@ -10,7 +10,7 @@ use Rattle.counter.specs.declared.map.Kind.{Kind}
 use Rattle.counter.specs.declared.map.Kind.the-variants.{High, Low}
 use Rattle.counter.specs.declared.places.Places.{Places}
 use Rattle.counter.specs.Slots.{slots, kindOf, every, _and_}
-use Rattle.counter.specs.Places.{mapCells}
+use Rattle.counter.specs.Places.{copyCells, mapCells}
 
 -- the part of an image's cells that is the map
 abbrev pub mapIn : ℕ → Places → List ℕ → List ℕ
@@ -29,7 +29,7 @@ marked map = eqb (byteAt map 0) 0xA5 and eqb (byteAt map 1) 0x5A
 
 -- where the part of a copy, counted from 0, starts in the map
 abbrev pub partAt : ℕ → ℕ
-partAt copy = 2 + 11 * copy
+partAt copy = 2 + copyCells * copy
 
 -- where in its copy's part a nibble's pointer starts: two bytes for each Low nibble, one for each High one
 unfoldable pub offsetIn : ℕ → ℕ

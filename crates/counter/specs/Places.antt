@@ -10,9 +10,13 @@ use Rattle.counter.specs.Slots.{slots, _and_, _or_}
 abbrev pub places : ℕ → ℕ → ℕ → Places
 places m s e = record { map = m; start = s; end = e }
 
--- the cells of the map: the mark's two, and eleven for each copy
+-- the map cells of a copy
+abbrev pub copyCells : ℕ
+copyCells = 11
+
+-- the cells of the map: the mark's two, and those of each copy
 abbrev pub mapCells : ℕ → ℕ
-mapCells copies = 2 + 11 * copies
+mapCells copies = 2 + copyCells * copies
 
 -- the image is 41 to 4096 bytes long; 41 is room for cell 0, the map and an area of the least size
 unfoldable pub lengthGood : ℕ → ℕ → Bool

@@ -27,10 +27,10 @@ dataAt cells map k = getD cells (pointerOf map k) 0
 
 -- nibble n of the lowest-numbered copy that has one, among so many copies from one on, given what each slot
 -- reads as; copies are counted from 0
-unfoldable pub lent : ℕ → ℕ → (ℕ → Reading) → ℕ → ℕ
-lent zero copy reading n = 0
-lent (suc left) copy reading n =
-    let other = lent left (copy + 1) reading n in
+unfoldable pub firstRead : ℕ → ℕ → (ℕ → Reading) → ℕ → ℕ
+firstRead zero copy reading n = 0
+firstRead (suc left) copy reading n =
+    let other = firstRead left (copy + 1) reading n in
     let own = reading (8 * copy + n) in
     pick (isLost own) other (nibbleRead own)
 
@@ -38,7 +38,7 @@ lent (suc left) copy reading n =
 unfoldable pub nibbleIn : ℕ → (ℕ → Reading) → ℕ → ℕ → ℕ
 nibbleIn copies reading copy n =
     let own = reading (8 * copy + n) in
-    pick (isLost own) (lent copies 0 reading n) (nibbleRead own)
+    pick (isLost own) (firstRead copies 0 reading n) (nibbleRead own)
 
 -- the count of a copy: its Gray word turned back
 unfoldable pub countIn : ℕ → (ℕ → Reading) → ℕ → ℕ

@@ -1,5 +1,5 @@
 -- Slots, and tests over a range of them. Slot k stands for nibble k % 8 of copy k / 8; a counter of so many
--- copies has eight times as many. This delivery has two copies; every definition is over their number.
+-- copies has eight times as many. This delivery has two copies; what depends on their number is over it.
 use Prim.Native.Nat.{ℕ, zero, suc, _+_, _*_, _%_}
 use mathlib.Core.Bool.{Bool, true, false}
 use mathlib.Core.List.{List, [], _∷_}

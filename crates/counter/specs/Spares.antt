@@ -35,7 +35,7 @@ unfoldable pub gapOf : ℕ → Places → (ℕ → ℕ) → Gap
 gapOf copies p pointer = gapTo (slots copies) p pointer
 
 -- a spare may be tried: it is in the area, a High one is at most 255 and below every Low pointer, a Low one is
--- above every High pointer
+-- above every High pointer. From the next address on these are as many as `sparesOf` says (proofs/Gaps.antt)
 unfoldable pub mayTry : Places → Kind → Gap → ℕ → Bool
 mayTry p High g a = inArea p a and leb a 255 and ltb a (g .low)
 mayTry p Low g a = inArea p a and leb (g .high) a

@@ -9,7 +9,7 @@ ghost use lib.ListN.{length};
 ghost use Rattle.counter.specs.Slots.{two, kindOf, every};
 ghost use Rattle.counter.specs.Map.{pointerOf, sound};
 ghost use Rattle.counter.specs.Spares.{gapTo, mayTry};
-ghost use Rattle.counter.specs.Inside.{Among, Apart, listed};
+ghost use Rattle.counter.specs.Inside.{Among, Differ, listed};
 use super::map::Map;
 use super::map::pointer_of;
 use super::map::pointers_of;
@@ -120,7 +120,7 @@ fn with_bit(bits: u64, a: usize, skew: usize) -> u64
 // if no two have the same bit.
 fn bits_of(map: &[u8], from: usize, to: usize, skew: usize) -> u64
     requires { ⌜ (length (now map) ≡ 24) × (from ≤ to) × (to ≤ 8) × (skew ≤ 1) ⌝ }
-    ensures { λ r. ⌜ (ones r ≤ 2 * (to - from)) × (ones r ≡ 2 * (to - from) → Apart (Among from to) (λ k. (pointerOf (now (map .entry)) k + skew * (pointerOf (now (map .entry)) k / 64)) % 64)) ⌝ }
+    ensures { λ r. ⌜ (ones r ≤ 2 * (to - from)) × (ones r ≡ 2 * (to - from) → Differ (Among from to) (λ k. (pointerOf (now (map .entry)) k + skew * (pointerOf (now (map .entry)) k / 64)) % 64)) ⌝ }
 {
     let mut bits = 0u64;
     let mut n = from;
@@ -135,7 +135,7 @@ fn bits_of(map: &[u8], from: usize, to: usize, skew: usize) -> u64
 // Whether no two pointers of one kind have the same bit: where they are in order, the quick way to see that all differ.
 fn spread(map: &[u8], skew: usize) -> bool
     requires { ⌜ (length (now map) ≡ 24) × (skew ≤ 1) ⌝ }
-    ensures { λ r. ⌜ (r ≡ true → (Apart (Among 0 3) (pointerOf (now (map .entry)))) × (Apart (Among 3 8) (pointerOf (now (map .entry))))) ⌝ }
+    ensures { λ r. ⌜ (r ≡ true → (Differ (Among 0 3) (pointerOf (now (map .entry)))) × (Differ (Among 3 8) (pointerOf (now (map .entry))))) ⌝ }
 {
     let low = u64::count_ones(bits_of(map, 0, 3, skew));
     let high = u64::count_ones(bits_of(map, 3, 8, skew));

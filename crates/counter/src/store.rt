@@ -1,5 +1,5 @@
-// Storing a count (document 01, "Storing, opening, stepping"). Every function here asks that the chip has its
-// lives and good settings, and a sound map; the doors see to that.
+// Storing a count (document 01, "Storing, opening, stepping"). What stores asks for a chip with its lives, good settings and
+// a sound map; the doors see to that.
 ghost use mathlib.Core.Path.{_≡_};
 ghost use mathlib.Core.Bool.{true};
 ghost use Prim.Native.Nat.{_+_, _≤_, _<_};

@@ -20,7 +20,7 @@ use Rattle.counter.specs.Slots.{two, kindOf, every, some, lowest, tabulate}
 use Rattle.counter.specs.Places.{places, lengthGood, placesGood}
 use Rattle.counter.specs.Map.{marked, offsetIn, offsetOf, pointerAt, pointerOf, reachable, inOrder, sound}
 use Rattle.counter.specs.Verdict.{answer, refusalOf, answerOf}
-use Rattle.counter.specs.Reading.{lent, nibbleIn, countIn, close, decide, weigh, examine, verdictOf}
+use Rattle.counter.specs.Reading.{firstRead, nibbleIn, countIn, close, decide, weigh, examine, verdictOf}
 use Rattle.counter.specs.Doors.{readOf}
 
 -- what a case asks for: what a byte reads as, the Gray word of a count, or what an image answers
@@ -72,5 +72,5 @@ bench =
 
 -- in each case the definitions answer what the paper says
 pub holds : map (λ r. r .found) bench ≡ map (λ r. r .paper) bench
-unfolding codes distance nearFrom near readingOf twofold isLost nibbleRead bits grayOf halvesOf countOf wordOf ones kindOf every some lowest tabulate lengthGood placesGood marked offsetIn offsetOf pointerAt pointerOf reachable inOrder sound refusalOf answerOf lent nibbleIn countIn close decide weigh examine verdictOf readOf
+unfolding codes distance nearFrom near readingOf twofold isLost nibbleRead bits grayOf halvesOf countOf wordOf ones kindOf every some lowest tabulate lengthGood placesGood marked offsetIn offsetOf pointerAt pointerOf reachable inOrder sound refusalOf answerOf firstRead nibbleIn countIn close decide weigh examine verdictOf readOf
 holds = refl

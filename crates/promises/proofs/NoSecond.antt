@@ -11,7 +11,7 @@ use prog.Memory.{Memory}
 use prog.Routine.{Routine}
 use prog.Wp.{Heap}
 use denote.Ref.{now, ptr}
-use Rattle.promises.specs.Sole.{Sole, left, handed}
+use Rattle.promises.specs.Sole.{Sole, left, handed, filled}
 use Rattle.code.proofs.codes.code_of
 use Rattle.code.proofs.codes.distance_of
 use Rattle.code.proofs.gray.gray_of
@@ -40,6 +40,36 @@ use Rattle.counter.proofs.doors.read
 use Rattle.counter.proofs.doors.step
 use Rattle.counter.proofs.doors.part_of
 use Rattle.counter.proofs.doors.map_part
+use Rattle.counter.specs.declared.verdict.Answer as verdict
+use Rattle.counter.specs.declared.doors.Part as doors
+use Rattle.lyre.specs.declared.Answer as plain
+use Rattle.lyre.specs.declared.Part as plainPart
+use Rattle.lyre.proofs.lyre_open
+use Rattle.lyre.proofs.lyre_step
+use Rattle.lyre.proofs.lyre_read
+use Rattle.lyre.proofs.lyre_map_part
+use Rattle.text.specs.Text.{Wrote}
+use Rattle.text.proofs.write_byte
+use Rattle.text.proofs.write_bytes
+use Rattle.text.proofs.write_decimal
+use Rattle.text.proofs.write_signed
+use Rattle.text.proofs.write_decimal_line
+use Rattle.text.proofs.write_signed_line
+use Prim.Native.Nat.{ℕ}
+use mathlib.Core.List.{List}
+
+-- an answer and a part as they are laid out for C
+abbrev answerOut : verdict.Answer → plain.Answer
+answerOut a = record { code = a .code; count = a .count; lag = a .lag; place = a .place; writes = a .writes; tried = a .tried }
+
+abbrev partOut : doors.Part → plainPart.Part
+partOut p = record { code = p .code; start = p .start; length = p .size }
+
+-- bytes written are seen by where they end and by the text as it is left
+one-text :
+    {before bytes after after′ : List ℕ} {at next next′ : ℕ} → Wrote before at bytes next after → Wrote before at bytes next′ after′
+    → filled next after ≡ filled next′ after′
+one-text one two = λ i. filled ((one .ends ∙ sym (two .ends)) i) ((one .holds ∙ sym (two .holds)) i)
 
 module _ {M : Type 1} (𝓤 : URA M) where
   -- what follows from two facts
@@ -128,3 +158,33 @@ module _ {M : Type 1} (𝓤 : URA M) where
 
     pub map-part-one : Sole 𝓤 map_part.ended (map_part.clauses 𝓤 H A mem run) (λ κs r at. handed (ptr r) (now r) (now (at .1 .1 .1 .1 .1 .0)))
     map-part-one _ _ _ _ _ _ _ = both (λ one two. λ i. handed ((one .points ∙ sym (two .points)) i) ((one .holds ∙ sym (two .holds)) i) ((one .says ∙ sym (two .says)) i))
+
+    pub lyre-open-one : Sole 𝓤 lyre_open.ended (lyre_open.clauses 𝓤 H A mem run) (λ κs r at. left r (now (at .0)) (now (at .1 .0)))
+    lyre-open-one _ _ _ _ _ _ _ = same (λ v. left (answerOut (v .says)) (v .leaves .cells) (v .leaves .lives))
+
+    pub lyre-step-one : Sole 𝓤 lyre_step.ended (lyre_step.clauses 𝓤 H A mem run) (λ κs r at. left r (now (at .0)) (now (at .1 .0)))
+    lyre-step-one _ _ _ _ _ _ _ = same (λ v. left (answerOut (v .says)) (v .leaves .cells) (v .leaves .lives))
+
+    pub lyre-read-one : Sole 𝓤 lyre_read.ended (lyre_read.clauses 𝓤 H A mem run) (λ κs r at. r)
+    lyre-read-one _ _ _ _ _ _ _ = same answerOut
+
+    pub lyre-map-part-one : Sole 𝓤 lyre_map_part.ended (lyre_map_part.clauses 𝓤 H A mem run) (λ κs r at. r)
+    lyre-map-part-one _ _ _ _ _ _ _ = same partOut
+
+    pub write-byte-one : Sole 𝓤 write_byte.ended (write_byte.clauses 𝓤 H A mem run) (λ κs r at. filled r (now (at .1 .0)))
+    write-byte-one _ _ _ _ _ _ _ = both one-text
+
+    pub write-bytes-one : Sole 𝓤 write_bytes.ended (write_bytes.clauses 𝓤 H A mem run) (λ κs r at. filled r (now (at .1 .0)))
+    write-bytes-one _ _ _ _ _ _ _ = both one-text
+
+    pub write-decimal-one : Sole 𝓤 write_decimal.ended (write_decimal.clauses 𝓤 H A mem run) (λ κs r at. filled r (now (at .1 .0)))
+    write-decimal-one _ _ _ _ _ _ _ = both one-text
+
+    pub write-signed-one : Sole 𝓤 write_signed.ended (write_signed.clauses 𝓤 H A mem run) (λ κs r at. filled r (now (at .1 .0)))
+    write-signed-one _ _ _ _ _ _ _ = both one-text
+
+    pub write-decimal-line-one : Sole 𝓤 write_decimal_line.ended (write_decimal_line.clauses 𝓤 H A mem run) (λ κs r at. filled r (now (at .1 .1 .0)))
+    write-decimal-line-one _ _ _ _ _ _ _ = both one-text
+
+    pub write-signed-line-one : Sole 𝓤 write_signed_line.ended (write_signed_line.clauses 𝓤 H A mem run) (λ κs r at. filled r (now (at .1 .1 .0)))
+    write-signed-line-one _ _ _ _ _ _ _ = both one-text

@@ -29,6 +29,14 @@ pub record Handed : Type 0 where
 abbrev pub handed : ℕ × ℕ → List ℕ → ℕ → Handed
 handed place cells code = record { place = place; cells = cells; code = code }
 
+-- a text as it is left, and where what was written into it ends
+pub record Filled : Type 0 where
+  pub next : ℕ
+  pub text : List ℕ
+
+abbrev pub filled : ℕ → List ℕ → Filled
+filled next text = record { next = next; text = text }
+
 -- what a caller sees of an end
 abbrev pub Sight : Ended → Type 0 → Type 0
 Sight T Seen = (κs : Lfts (T .signature .lifetimes)) → Res (T .signature) κs → AtExit T κs → Seen
