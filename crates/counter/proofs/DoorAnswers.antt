@@ -3,7 +3,8 @@
 --   code-eight                a call of code 8 found no spare for the slot that is its place
 --   good-says                 a good call answers its count and lag, with code 0 and the writes and spares it took
 --   refused-code              a refused call answers another code than 0
---   spareless-code, mapless-code  8 where it found no spare, 9 where a map byte failed
+--   spareless-code, spareless-place  8 where it found no spare, and the slot
+--   mapless-code              9 where a map byte failed
 --   open-is, step-is          the outcomes of open and step are those of their work
 --   read-good                 what a good read answers
 use Prim.Native.Nat.{ℕ, _≤_}
@@ -77,6 +78,10 @@ module _ (r : Run Verdict) where
   pub spareless-code : {k : ℕ} → r .answer ≡ Refused (NoSpare k) → outcomeOf r .says .code ≡ 8
   unfolding answerOf refusalOf
   spareless-code e = rw e
+
+  pub spareless-place : {k : ℕ} → r .answer ≡ Refused (NoSpare k) → outcomeOf r .says .place ≡ k
+  unfolding answerOf refusalOf
+  spareless-place e = rw e
 
   pub mapless-code : {a : ℕ} → r .answer ≡ Refused (MapByte a) → outcomeOf r .says .code ≡ 9
   unfolding answerOf refusalOf

@@ -11,6 +11,7 @@ pub mod ExactSteps
 pub mod SettingA
 pub mod RoomlessDoors
 pub mod RoomlessOpenings
+pub mod RoomAlways
 pub mod WriteCounts
 pub mod Numbers
 pub mod RoomLeft
