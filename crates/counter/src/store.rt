@@ -3,7 +3,7 @@
 ghost use mathlib.Core.Path.{_≡_};
 ghost use mathlib.Core.Bool.{true};
 ghost use Prim.Native.Nat.{_+_, _≤_, _<_};
-ghost use lib.ListN.{length, getD};
+ghost use lib.ListN.{length};
 ghost use Rattle.cells.specs.Chip.{Chip, chip};
 ghost use Rattle.cells.specs.Run.{seen, view, plus};
 ghost use Rattle.counter.specs.Slots.{two, kindOf};
@@ -205,20 +205,12 @@ pub(crate) fn settle(
     store_count(image, lives, p, count)
 }
 
-// A byte stored in a slot whose cell is worn and reads another: the put fails, and the byte is moved.
-fn move_worn(image: &mut [u8], lives: &mut [u32], p: Places, slot: usize, byte: u8) -> Stored
-    requires { ⌜ (fitted two p (chip (now image) (now lives)) ≡ true) × (sound two p (pointerOf (mapIn two p (now image))) ≡ true) × (slot < 16) × (dataAt (now image) (mapIn two p (now image)) slot ≡ byte → ⊥) × (getD (now lives) (pointerOf (mapIn two p (now image)) slot) 0 ≡ 0) ⌝ }
-    ensures { λ r. ⌜ seen (r .work) (r .writes) (r .tried) (chip (now (image .exit)) (now (lives .exit))) ≡ view (storeSlot two p slot byte (chip (now (image .entry)) (now (lives .entry)))) ⌝ }
-{
-    behind(1, 0, move_slot(image, lives, p, slot, byte))
-}
-
-// A byte stored in both slots of a nibble, where the first one's cell is worn and reads another.
-fn move_first(image: &mut [u8], lives: &mut [u32], p: Places, nibble: usize, byte: u8) -> Stored
-    requires { ⌜ (fitted two p (chip (now image) (now lives)) ≡ true) × (sound two p (pointerOf (mapIn two p (now image))) ≡ true) × (nibble < 8) × (dataAt (now image) (mapIn two p (now image)) nibble ≡ byte → ⊥) × (getD (now lives) (pointerOf (mapIn two p (now image)) nibble) 0 ≡ 0) ⌝ }
+// A byte stored in both slots of a nibble, copy 1 first.
+fn store_pair(image: &mut [u8], lives: &mut [u32], p: Places, nibble: usize, byte: u8) -> Stored
+    requires { ⌜ (fitted two p (chip (now image) (now lives)) ≡ true) × (sound two p (pointerOf (mapIn two p (now image))) ≡ true) × (nibble < 8) ⌝ }
     ensures { λ r. ⌜ seen (r .work) (r .writes) (r .tried) (chip (now (image .exit)) (now (lives .exit))) ≡ view (storeSlot two p nibble byte (chip (now (image .entry)) (now (lives .entry))) andThen storeSlot two p (8 + nibble) byte) ⌝ }
 {
-    let first = move_worn(image, lives, p, nibble, byte);
+    let first = store_slot(image, lives, p, nibble, byte);
     if is_stopped(first) {
         return first;
     }
@@ -247,7 +239,7 @@ fn cells_of(image: &[u8], p: Places, nibble: usize) -> Pair
     }
 }
 
-// A byte stored in both slots of a nibble, where neither holds it: two writes, unless a cell is worn.
+// The same where neither slot holds the byte: two writes, unless a cell is worn.
 fn store_both(image: &mut [u8], lives: &mut [u32], p: Places, nibble: usize, byte: u8) -> Stored
     requires { ⌜ (fitted two p (chip (now image) (now lives)) ≡ true) × (sound two p (pointerOf (mapIn two p (now image))) ≡ true) × (nibble < 8) × (dataAt (now image) (mapIn two p (now image)) nibble ≡ byte → ⊥) × (dataAt (now image) (mapIn two p (now image)) (8 + nibble) ≡ byte → ⊥) ⌝ }
     ensures { λ r. ⌜ seen (r .work) (r .writes) (r .tried) (chip (now (image .exit)) (now (lives .exit))) ≡ view (storeSlot two p nibble byte (chip (now (image .entry)) (now (lives .entry))) andThen storeSlot two p (8 + nibble) byte) ⌝ }
@@ -255,19 +247,18 @@ fn store_both(image: &mut [u8], lives: &mut [u32], p: Places, nibble: usize, byt
     let cells = cells_of(image, p, nibble);
     let one = cells.one;
     let other = cells.other;
-    if lives[one] == 0 {
-        return move_first(image, lives, p, nibble, byte);
+    if lives[one] != 0 {
+        if lives[other] != 0 {
+            write(image, lives, one, byte);
+            write(image, lives, other, byte);
+            return Stored {
+                work: Work::Done,
+                writes: 2,
+                tried: 0,
+            };
+        }
     }
-    write(image, lives, one, byte);
-    if lives[other] == 0 {
-        return behind(1, 0, move_worn(image, lives, p, 8 + nibble, byte));
-    }
-    write(image, lives, other, byte);
-    Stored {
-        work: Work::Done,
-        writes: 2,
-        tried: 0,
-    }
+    store_pair(image, lives, p, nibble, byte)
 }
 
 // The next count stored where all slots hold a count's codes: one nibble changes, in each copy.

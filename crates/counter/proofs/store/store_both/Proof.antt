@@ -1,20 +1,16 @@
 -- `store::store_both` meets its contract: cells that have life and read another byte are written where they are.
-use Prim.Native.Nat.{ℕ, _+_, _≤_, _<_}
-use mathlib.Core.Path.{_≡_, sym, ap, _∙_}
+use Prim.Native.Nat.{_+_, _≤_, _<_}
+use mathlib.Core.Path.{sym, ap, _∙_}
 use native.Mathlib.Omega.{arith}
 use lib.ListN.{length}
-use Rattle.cells.specs.Chip.{Chip, chip, lifeAt, writeAt}
-use Rattle.cells.specs.Run.{Run, seen, view, plus}
-use Rattle.counter.specs.declared.verdict.Work.{Work}
+use Rattle.cells.specs.Chip.{chip, lifeAt, writeAt}
+use Rattle.cells.specs.Run.{seen}
 use Rattle.counter.specs.declared.verdict.Work.the-variants.{Done}
 use Rattle.counter.specs.Slots.{two}
-use Rattle.counter.specs.Verdict.{_andThen_}
-use Rattle.counter.specs.Store.{storeSlot}
-use Rattle.counter.proofs.SoundPointers.{test-sound, sound-test}
+use Rattle.counter.proofs.SoundPointers.{test-sound}
 use Rattle.counter.proofs.Ready.{pointers, inside-cell}
-use Rattle.counter.proofs.Fitted.{fitted-ready, ready-fitted, ready-short}
-use Rattle.counter.proofs.StoreCosts.{slot-few}
-use Rattle.counter.proofs.Written.{Left, slot-written, written-then, written-left}
+use Rattle.counter.proofs.Fitted.{fitted-ready, ready-short}
+use Rattle.counter.proofs.Written.{both-written}
 use borrow.Author.Needs.{needs}
 use Rattle.counter.proofs.store.store_both.Statement.{statement}
 use Rattle.counter.proofs.store.store_both.Tie as tie
@@ -48,11 +44,26 @@ mul-if1 c = omega (arith, small c)
 slice-read-if1 : tie.Need-slice-read-if1
 slice-read-if1 c = small (c .before) .0
 
-move-first-requires : tie.Need-move-first-requires
-move-first-requires c κs =
-    let cells = c .before .before .before .before in
-    let s = cells .before .before .before .before in
-    (s .pre .0, s .pre .1, s .pre .2, s .pre .3, rw (← (cells .cells-of .ensures .0)) (c .before .before .if1 .taken))
+mul-if2 : tie.Need-mul-if2
+mul-if2 c = omega (arith, small (c .before .before))
+
+slice-read-if2 : tie.Need-slice-read-if2
+slice-read-if2 c =
+    let cells = c .before .before .before in
+    let paired = fitted-ready (cells .before .before .before .before .pre .0) .paired in
+    omega (arith, inside cells)
+
+write-requires : tie.Need-write-requires
+write-requires c κs =
+    let cells = c .before .before .before .before .before .before in
+    (inside cells .0, fitted-ready (cells .before .before .before .before .pre .0) .paired)
+
+write-requires-2 : tie.Need-write-requires-2
+write-requires-2 c κs =
+    let first = c .before .before .before .before .before .before in
+    let cells = first .before .before .before .before .before .before .before in
+    let paired = fitted-ready (cells .before .before .before .before .pre .0) .paired in
+    (omega (arith, first .write .kept, inside cells), omega (arith, first .write .kept))
 
 same-length : tie.Need-same-length
 same-length c = search needs
@@ -61,75 +72,25 @@ same-length-2 : tie.Need-same-length-2
 same-length-2 c = search needs
 
 returns : tie.Need-returns
-returns c = search needs
-
-write-requires : tie.Need-write-requires
-write-requires c κs =
-    let cells = c .before .before .before .before in
-    (inside cells .0, fitted-ready (cells .before .before .before .before .pre .0) .paired)
-
--- the first write
-landed : (c : tie.After-write) → let s = c .before .before .before .before .before .before .before .before .before in
+returns c =
+    let second = c .before .before .before .before in
+    let first = second .before .before .before .before .before .before .before in
+    let cells = first .before .before .before .before .before .before .before in
+    let s = cells .before .before .before .before in
+    let low = s .pre .2 in
     let lent = chip (s .args .image .now) (s .args .lives .now) in
-    chip (c .write .last .0) (c .write .last .1 .0) ≡ writeAt (pointers two (s .args .p) lent (s .args .nibble)) (s .args .byte) lent
-landed c =
-    let cells = c .before .before .before .before .before in
-    let s = cells .before .before .before .before in
-    c .write .ensures ∙ ap (λ (a : ℕ). writeAt a (s .args .byte) (chip (s .args .image .now) (s .args .lives .now))) (cells .cells-of .ensures .0)
+    let one = cells .cells-of .ensures .0 in
+    let other = cells .cells-of .ensures .1 in
+    let alive : 1 ≤ lifeAt lent (pointers two (s .args .p) lent (s .args .nibble)) = rw (← one) (let living = first .before .before .before .before .before .if1 .taken in omega arith) in
+    let alive′ : 1 ≤ lifeAt lent (pointers two (s .args .p) lent (8 + s .args .nibble)) = rw (← other) (let living = first .before .before .before .if2 .taken in omega arith) in
+    ap (seen Done 2 0)
+    (second .write2 .ensures
+    ∙ ap (writeAt _ (s .args .byte)) (first .write .ensures)
+    ∙ rw (one, other))
+    ∙ sym (both-written (fitted-ready (s .pre .0)) (test-sound two _ _ (s .pre .1)) (s .args .nibble) (8 + s .args .nibble) (omega arith) (omega arith) (λ e. omega arith) (s .args .byte) (s .pre .3) (s .pre .4) alive alive′)
 
--- what it leaves for the other slot
-left : (c : tie.After-write) → let s = c .before .before .before .before .before .before .before .before .before in
-    Left two (s .args .p) (8 + s .args .nibble) (s .args .byte) (chip (s .args .image .now) (s .args .lives .now)) (chip (c .write .last .0) (c .write .last .1 .0))
-left c =
-    let s = c .before .before .before .before .before .before .before .before .before in
-    let low = s .pre .2 in
-    written-left (fitted-ready (s .pre .0)) (test-sound two _ _ (s .pre .1)) (s .args .nibble) (omega arith) (s .args .byte) (8 + s .args .nibble) (omega arith) (λ e. omega arith) (s .pre .4) (landed c)
-
--- the other slot's cell is where it was
-there : (c : tie.After-write) → let s = c .before .before .before .before .before .before .before .before .before in
-    pointers two (s .args .p) (chip (c .write .last .0) (c .write .last .1 .0)) (8 + s .args .nibble) ≡ c .before .before .before .before .before .cells-of .result .other
-there c = left c .pointer ∙ sym (c .before .before .before .before .before .cells-of .ensures .1)
-
--- the second slot comes behind that write
-behind : (c : tie.After-write) → let s = c .before .before .before .before .before .before .before .before .before in
-    let other = storeSlot two (s .args .p) (8 + s .args .nibble) (s .args .byte) in
-    view (storeSlot two (s .args .p) (s .args .nibble) (s .args .byte) (chip (s .args .image .now) (s .args .lives .now)) andThen other)
-    ≡ plus 1 0 (view (other (chip (c .write .last .0) (c .write .last .1 .0))))
-behind c =
-    let cells = c .before .before .before .before .before in
-    let s = cells .before .before .before .before in
-    let low = s .pre .2 in
-    let living = c .before .before .before .if1 .left in
-    let alive : 1 ≤ lifeAt (chip (s .args .image .now) (s .args .lives .now)) (pointers two (s .args .p) (chip (s .args .image .now) (s .args .lives .now)) (s .args .nibble)) =
-    rw (← (cells .cells-of .ensures .0)) (omega arith) in
-    rw (landed c)
-    (written-then (fitted-ready (s .pre .0)) (test-sound two _ _ (s .pre .1)) (s .args .nibble) (omega arith) (s .args .byte) (s .pre .3) alive (storeSlot two (s .args .p) (8 + s .args .nibble) (s .args .byte)))
-
-mul-if2 : tie.Need-mul-if2
-mul-if2 c = omega (arith, small (c .before .before .before .before .before .before .before .before .before))
-
-slice-read-if2 : tie.Need-slice-read-if2
-slice-read-if2 c =
-    let one = c .before .before .before .before .before in
-    let h = inside (one .before .before .before .before .before) .1 in
-    let paired = fitted-ready (one .before .before .before .before .before .before .before .before .before .pre .0) .paired in
-    omega (arith, one .write .kept)
-
-add-move-worn : tie.Need-add-move-worn
-add-move-worn c = search needs
-
-move-worn-requires : tie.Need-move-worn-requires
-move-worn-requires c κs =
-    let one = c .before .before .before .before .before .before .before .before in
-    let low = one .before .before .before .before .before .before .before .before .before .pre .2 in
-    (ready-fitted (left one .ready), sound-test two _ _ (left one .sound), omega arith, left one .other, rw (there one) (c .before .before .if2 .taken))
-
-behind-requires : tie.Need-behind-requires
-behind-requires c κs =
-    let call = c .before .before .before .before in
-    let one = call .before .before .before .before .before .before .before .before .before in
-    let few = slot-few (left one .ready) _ _ (call .move-worn .ensures) in
-    (omega arith, omega arith, omega arith, omega arith)
+store-pair-requires : tie.Need-store-pair-requires
+store-pair-requires c κs = search needs
 
 same-length-3 : tie.Need-same-length-3
 same-length-3 c = search needs
@@ -138,35 +99,7 @@ same-length-4 : tie.Need-same-length-4
 same-length-4 c = search needs
 
 returns-2 : tie.Need-returns-2
-returns-2 c =
-    let call = c .before .before .before .before .before in
-    let one = call .before .before .before .before .before .before .before .before .before in
-    c .behind .ensures _ ∙ ap (plus 1 0) (call .move-worn .ensures) ∙ sym (behind one)
-
-write-requires-2 : tie.Need-write-requires-2
-write-requires-2 c κs =
-    let one = c .before .before .before .before .before .before .before .before in
-    let h = inside (one .before .before .before .before .before) .1 in
-    (omega (arith, one .write .kept), left one .ready .paired)
-
-same-length-5 : tie.Need-same-length-5
-same-length-5 c = search needs
-
-same-length-6 : tie.Need-same-length-6
-same-length-6 c = search needs
-
-returns-3 : tie.Need-returns-3
-returns-3 c =
-    let call = c .before .before .before .before in
-    let one = call .before .before .before .before .before .before .before .before .before in
-    let s = one .before .before .before .before .before .before .before .before .before in
-    let low = s .pre .2 in
-    let written = chip (one .write .last .0) (one .write .last .1 .0) in
-    let living = call .before .before .before .if2 .left in
-    let alive : 1 ≤ lifeAt written (pointers two (s .args .p) written (8 + s .args .nibble)) = rw (there one) (omega arith) in
-    let done = slot-written (left one .ready) (left one .sound) (8 + s .args .nibble) (omega arith) (s .args .byte) (left one .other) alive in
-    ap (λ (t : Chip). seen Done 2 0 t) (call .write2 .ensures ∙ ap (λ (a : ℕ). writeAt a (s .args .byte) written) (sym (there one)))
-    ∙ sym (behind one ∙ ap (λ (r : Run Work). plus 1 0 (view r)) done)
+returns-2 c = search needs
 
 pub store-both-spec : {M : Type 1} → statement M
 store-both-spec =
@@ -175,20 +108,14 @@ store-both-spec =
     cells-of-requires
     mul-if1
     slice-read-if1
-    move-first-requires
+    mul-if2
+    slice-read-if2
+    write-requires
+    write-requires-2
     same-length
     same-length-2
     returns
-    write-requires
-    mul-if2
-    slice-read-if2
-    add-move-worn
-    move-worn-requires
-    behind-requires
+    store-pair-requires
     same-length-3
     same-length-4
-    returns-2
-    write-requires-2
-    same-length-5
-    same-length-6
-    returns-3)
+    returns-2)
