@@ -2,12 +2,14 @@
 --   at      the value at a place of the list is the function's
 --   agree   two functions whose lists are equal are equal at each number of the list
 --   alike   two functions that are equal at each number of the list have equal lists
+--   filled  a list with the function's values is its list
 use mathlib.Core.Path.{_≡_, refl, sym, ap, _∙_}
 use mathlib.Core.List.{List, _∷_}
 use Prim.Native.Nat.{ℕ, zero, suc, _+_, _≤_, _<_}
 use native.Mathlib.Nat.{add-zero, zero-add, add-suc, suc-add, le-of-suc-le-suc, not-suc-le-zero}
 use native.Mathlib.Omega.{arith}
-use lib.ListN.{getD}
+use lib.ListN.{length, getD}
+use lib.Seq.{ext-getD}
 use Rattle.code.specs.Tabulate.{tabulate}
 
 module _ {A : Type 0} where
@@ -33,3 +35,11 @@ module _ {A : Type 0} where
   -- two functions that are equal at each number of the list have equal lists
   pub alike : (f g : ℕ → A) (n : ℕ) → ((k : ℕ) → k < n → f k ≡ g k) → tabulate f 0 n ≡ tabulate g 0 n
   alike f g n same = alike-from f g 0 n (λ k low high. same k (omega arith))
+
+  long : (f : ℕ → A) (i n : ℕ) → length (tabulate f i n) ≡ n
+  long f i zero = refl
+  long f i (suc n) = ap suc (long f (suc i) n)
+
+  -- a list with the function's values is its list
+  pub filled : (f : ℕ → A) (d : A) (xs : List A) (n : ℕ) → length xs ≡ n → ((k : ℕ) → k < n → getD xs k d ≡ f k) → xs ≡ tabulate f 0 n
+  filled f d xs n e each = ext-getD d xs (tabulate f 0 n) (e ∙ sym (long f 0 n)) (λ k l. let inside : k < n = omega arith in each k inside ∙ sym (at f d n k inside))

@@ -22,7 +22,8 @@ use Rattle.counter.specs.declared.verdict.Refusal.{Refusal}
 use Rattle.counter.specs.declared.verdict.Refusal.the-variants.{BadLength, BadPlaces, NoMark, UnsoundMap, TwoCodes, LostNibble, Apart, NoSpare}
 use Rattle.counter.specs.declared.verdict.Verdict.{Verdict}
 use Rattle.counter.specs.declared.verdict.Verdict.the-variants.{Good, Refused}
-use Rattle.counter.specs.Slots.{slots, lowest, tabulate}
+use Rattle.code.specs.Tabulate.{tabulate}
+use Rattle.counter.specs.Slots.{slots, lowest}
 use Rattle.counter.specs.Places.{lengthGood, placesGood, livesGood}
 use Rattle.counter.specs.Map.{mapIn, marked, sound}
 use Rattle.counter.specs.Reading.{nibbleIn, countIn, close, decide, twofoldAt, lostAt, unless, onFound, weigh, examine, verdictOf}
@@ -53,8 +54,8 @@ module _ {c : ℕ} {lag : ℤ} where
 
 -- a count read is one of 32 bits
 count-small-read : (copies : ℕ) (reading : ℕ → Reading) (copy : ℕ) → countIn copies reading copy < 2 ^ 32
-unfolding countIn tabulate
-count-small-read copies reading copy = count-small _ (word-small (tabulate 8 0 (nibbleIn copies reading copy)))
+unfolding countIn
+count-small-read copies reading copy = count-small _ (word-small (tabulate (nibbleIn copies reading copy) 0 8))
 
 weigh-good : {c : ℕ} {lag : ℤ} (copies : ℕ) (byte : ℕ → ℕ) → weigh copies byte ≡ Good c lag → c < 2 ^ 32
 unfolding weigh

@@ -6,27 +6,21 @@
 --   none-some                 the test holds of no number below n
 --   none-lowest, lowest-none  the test holds of none of the n numbers from k on
 --   Lowest, lowest-at         the lowest of which it holds
---   tabulate-same             two functions with the same values
 --   never                     a test that cannot hold fails
 --   every-more                one number more
 --   lowest-here, lowest-on    a search that finds, or goes on to the next number
 --   every-same, some-same, lowest-same  of another test with the same values
---   tabulate-filled           a list with a function's values
 --   no-claim                  what holds only where a test held that did not
 use Prim.Native.Nat.{ℕ, zero, suc, _+_, _-_, _≤_, _<_}
-use mathlib.Core.Path.{_≡_, refl, ap₂, sym, ap, _∙_}
+use mathlib.Core.Path.{_≡_, refl, ap₂, ap, _∙_}
 use mathlib.Core.Bool.{Bool, true, false}
-use mathlib.Core.List.{_∷_, List}
 use mathlib.Core.Logic.{_⊎_, inl, inr}
 use native.Mathlib.Decide.{ℕ-discrete}
 use native.Mathlib.Omega.{arith}
 use Rattle.cells.specs.declared.row.Found.the-variants.{At, Nowhere}
-use Rattle.counter.specs.Slots.{_and_, _or_, every, some, lowest, tabulate}
+use Rattle.counter.specs.Slots.{_and_, _or_, every, some, lowest}
 use native.Mathlib.Numerals.{add-one}
-use native.Mathlib.Nat.{add-zero, zero-add}
 use Rattle.cells.specs.declared.row.Found.{Found}
-use lib.ListN.{length, getD}
-use lib.Seq.{ext-getD}
 use Rattle.cells.specs.Chip.{pick}
 
 pub and-true : (a b : Bool) → a and b ≡ true → (a ≡ true) × (b ≡ true)
@@ -109,12 +103,6 @@ lowest-none (suc n) k test e j l u = go (lowest-none n (k + 1) test) (test k) re
         here rest (yes q) = rw q h
         here rest (no d) = rest j (omega arith) (omega arith)
 
-pub tabulate-same : (n k : ℕ) (f g : ℕ → ℕ) → ((j : ℕ) → k ≤ j → j < k + n → f j ≡ g j) → tabulate n k f ≡ tabulate n k g
-unfolding tabulate
-tabulate-same zero k f g h = refl
-tabulate-same (suc n) k f g h =
-    ap₂ _∷_ (h k (omega arith) (omega arith)) (tabulate-same n (k + 1) f g (λ j l u. h j (omega arith) (omega arith)))
-
 pub never : (b : Bool) → (b ≡ true → ⊥) → b ≡ false
 never true h = absurd (h refl)
 never false h = refl
@@ -151,22 +139,6 @@ lowest-same zero k f g h = refl
 lowest-same (suc n) k f g h =
     ap₂ (λ (b : Bool) (r : Found). pick b (At k) r) (h k (omega arith) (omega arith))
     (lowest-same n (k + 1) f g (λ j l u. h j (omega arith) (omega arith)))
-
-tabulate-length : (n k : ℕ) (f : ℕ → ℕ) → length (tabulate n k f) ≡ n
-unfolding tabulate
-tabulate-length zero k f = refl
-tabulate-length (suc n) k f = ap suc (tabulate-length n (k + 1) f)
-
-tabulate-at : (n k : ℕ) (f : ℕ → ℕ) (j : ℕ) → j < n → getD (tabulate n k f) j 0 ≡ f (k + j)
-unfolding tabulate
-tabulate-at zero k f j l = absurd (omega arith)
-tabulate-at (suc n) k f zero l = ap f (sym (add-zero k))
-tabulate-at (suc n) k f (suc j) l = tabulate-at n (k + 1) f j (omega arith) ∙ ap f (omega arith)
-
-pub tabulate-filled : (xs : List ℕ) (n : ℕ) (f : ℕ → ℕ) → length xs ≡ n → ((k : ℕ) → k < n → getD xs k 0 ≡ f k) → xs ≡ tabulate n 0 f
-tabulate-filled xs n f e h =
-    ext-getD 0 xs (tabulate n 0 f) (e ∙ sym (tabulate-length n 0 f))
-    (λ k l. h k (omega arith) ∙ ap f (sym (zero-add k)) ∙ sym (tabulate-at n 0 f k (omega arith)))
 
 pub no-claim : {A : Type 0} → false ≡ true → A
 no-claim e = let z : _≡_ {A = ℕ} 0 1 = cc in absurd (omega arith)

@@ -15,11 +15,12 @@ use Rattle.code.proofs.NibbleLaws.{word-of-nibbles}
 use Rattle.code.proofs.CodeLaws.{code-small}
 use Rattle.code.proofs.ReadingLaws.{no-twofold, nibble-round, nibble-kept}
 use Rattle.cells.specs.declared.row.Found.the-variants.{Nowhere}
+use Rattle.code.proofs.TabulateLaws.{alike}
 use Rattle.counter.specs.declared.verdict.Verdict.the-variants.{Good}
-use Rattle.counter.specs.Slots.{slots, lowest, tabulate}
+use Rattle.counter.specs.Slots.{slots, lowest}
 use Rattle.counter.specs.Store.{slotCode}
 use Rattle.counter.specs.Reading.{nibbleIn, countIn, close, decide, twofoldAt, lostAt, weigh}
-use Rattle.counter.proofs.RangeTests.{every-not, none-some, none-lowest, tabulate-same}
+use Rattle.counter.proofs.RangeTests.{every-not, none-some, none-lowest}
 
 slot-kept : (c k : ℕ) → isLost (readingOf (slotCode c k)) ≡ false
 unfolding slotCode
@@ -32,11 +33,6 @@ slot-round c k = nibble-round (grayOf c) (k % 8)
 slot-single : (c k : ℕ) → twofold (slotCode c k) ≡ false
 unfolding slotCode
 slot-single c k = no-twofold _ (code-small (nibbleOf (grayOf c) (k % 8)))
-
--- the word of the nibbles, listed
-nibbles-word : (w : ℕ) → w < 2 ^ 32 → wordOf (tabulate 8 0 (nibbleOf w)) ≡ w
-unfolding tabulate
-nibbles-word w h = word-of-nibbles w h
 
 decide-same : (c : ℕ) → decide c c ≡ Good c (pos 0)
 unfolding decide close
@@ -55,8 +51,8 @@ module _ (copies : ℕ) {c : ℕ} {byte : ℕ → ℕ} (small : c < 2 ^ 32) (exa
   pub count-read : (copy : ℕ) → copy < copies → countIn copies (λ k. readingOf (byte k)) copy ≡ c
   unfolding countIn
   count-read copy l =
-      ap (λ (ns : List ℕ). countOf (wordOf ns)) (tabulate-same 8 0 _ _ (λ n from to. nibble-read copy n l (omega arith)))
-      ∙ ap countOf (nibbles-word (grayOf c) (gray-small 32 c small))
+      ap (λ (ns : List ℕ). countOf (wordOf ns)) (alike _ _ 8 (λ n m. nibble-read copy n l m))
+      ∙ ap countOf (word-of-nibbles (grayOf c) (gray-small 32 c small))
       ∙ count-of-gray c small
 
   none-twofold : lowest 8 0 (twofoldAt copies byte) ≡ Nowhere

@@ -15,12 +15,13 @@ use Rattle.code.specs.Gray.{countOf}
 use Rattle.code.specs.Nibbles.{wordOf}
 use Rattle.code.proofs.ReadingLaws.{entry-reading, entry-twofold, lost-zero}
 use Rattle.cells.specs.Chip.{pick}
+use Rattle.code.proofs.TabulateLaws.{alike}
 use Rattle.counter.specs.declared.reading.Fault.the-variants.{Twofold, LostInAll}
 use Rattle.counter.specs.declared.verdict.Refusal.the-variants.{TwoCodes, LostNibble}
 use Rattle.counter.specs.Slots.{two, every, some, lowest}
 use Rattle.counter.specs.Reading.{firstRead, nibbleIn, countIn, twofoldAt, lostAt, decide, onFound, weigh}
 use Rattle.counter.specs.Inside.{amiss}
-use Rattle.counter.proofs.RangeTests.{every-same, some-same, lowest-same, tabulate-same}
+use Rattle.counter.proofs.RangeTests.{every-same, some-same, lowest-same}
 
 -- the nibble of a reading, by way of a test that it is not lost
 kept : (r : Reading) → pick (isLost r) 0 (nibbleRead r) ≡ nibbleRead r
@@ -53,9 +54,9 @@ nibble-two reading (suc (suc copy)) n l = absurd (omega arith)
 -- readings that agree on all slots give the same counts
 count-same : (one other : ℕ → Reading) → ((k : ℕ) → k < 16 → one k ≡ other k) → (copy : ℕ) → copy < 2 → countIn two one copy ≡ countIn two other copy
 unfolding countIn
-count-same one other agree copy l = ap (λ (ns : List ℕ). countOf (wordOf ns)) (tabulate-same 8 0 _ _ (λ n from to. same n to))
+count-same one other agree copy l = ap (λ (ns : List ℕ). countOf (wordOf ns)) (alike _ _ 8 same)
   where
-    same : (n : ℕ) → n < 0 + 8 → nibbleIn two one copy n ≡ nibbleIn two other copy n
+    same : (n : ℕ) → n < 8 → nibbleIn two one copy n ≡ nibbleIn two other copy n
     same n to =
         nibble-two one copy n l
         ∙ rw (agree (8 * copy + n) (omega arith), agree (8 - 8 * copy + n) (omega arith)) (sym (nibble-two other copy n l))

@@ -9,6 +9,7 @@ use Rattle.code.specs.declared.reading.Reading.{Reading}
 use Rattle.code.specs.Readings.{readingOf, twofold, isLost, nibbleRead}
 use Rattle.code.specs.Gray.{countOf}
 use Rattle.code.specs.Nibbles.{wordOf}
+use Rattle.code.specs.Tabulate.{tabulate}
 use Rattle.cells.specs.Chip.{pick}
 use Rattle.cells.specs.declared.row.Found.{Found}
 use Rattle.cells.specs.declared.row.Found.the-variants.{At, Nowhere}
@@ -17,7 +18,7 @@ use Rattle.counter.specs.declared.verdict.Verdict.{Verdict}
 use Rattle.counter.specs.declared.verdict.Verdict.the-variants.{Good, Refused}
 use Rattle.counter.specs.declared.verdict.Refusal.{Refusal}
 use Rattle.counter.specs.declared.verdict.Refusal.the-variants.{BadLength, BadPlaces, NoMark, UnsoundMap, TwoCodes, LostNibble, Apart}
-use Rattle.counter.specs.Slots.{every, some, lowest, tabulate}
+use Rattle.counter.specs.Slots.{every, some, lowest}
 use Rattle.counter.specs.Places.{lengthGood, placesGood}
 use Rattle.counter.specs.Map.{mapIn, marked, pointerOf, sound}
 
@@ -42,7 +43,7 @@ nibbleIn copies reading copy n =
 
 -- the count of a copy: its Gray word turned back
 unfoldable pub countIn : ℕ → (ℕ → Reading) → ℕ → ℕ
-countIn copies reading copy = countOf (wordOf (tabulate 8 0 (nibbleIn copies reading copy)))
+countIn copies reading copy = countOf (wordOf (tabulate (nibbleIn copies reading copy) 0 8))
 
 -- lag 0 or lag 1
 unfoldable pub close : ℤ → Bool

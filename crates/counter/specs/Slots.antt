@@ -2,7 +2,6 @@
 -- copies has eight times as many. This delivery has two copies; what depends on their number is over it.
 use Prim.Native.Nat.{ℕ, zero, suc, _+_, _*_, _%_}
 use mathlib.Core.Bool.{Bool, true, false}
-use mathlib.Core.List.{List, [], _∷_}
 use lib.Dec.{ltb}
 use Rattle.cells.specs.Chip.{pick}
 use Rattle.cells.specs.declared.row.Found.{Found}
@@ -47,8 +46,3 @@ some (suc n) test = some n test or test n
 unfoldable pub lowest : ℕ → ℕ → (ℕ → Bool) → Found
 lowest zero k test = Nowhere
 lowest (suc n) k test = pick (test k) (At k) (lowest n (k + 1) test)
-
--- the values at the n numbers from k on
-unfoldable pub tabulate : ℕ → ℕ → (ℕ → ℕ) → List ℕ
-tabulate zero k f = []
-tabulate (suc n) k f = f k ∷ tabulate n (k + 1) f

@@ -16,7 +16,7 @@ use Rattle.code.specs.Readings.{nearFrom, near, readingOf, twofold, isLost, nib
 use Rattle.code.specs.Gray.{bits, grayOf, halvesOf, countOf}
 use Rattle.code.specs.Nibbles.{wordOf}
 use Rattle.counter.specs.declared.verdict.Answer.{Answer}
-use Rattle.counter.specs.Slots.{two, kindOf, every, some, lowest, tabulate}
+use Rattle.counter.specs.Slots.{two, kindOf, every, some, lowest}
 use Rattle.counter.specs.Places.{places, lengthGood, placesGood}
 use Rattle.counter.specs.Map.{marked, offsetIn, offsetOf, pointerAt, pointerOf, reachable, inOrder, sound}
 use Rattle.counter.specs.Verdict.{answer, refusalOf, answerOf}
@@ -72,5 +72,5 @@ bench =
 
 -- in each case the definitions answer what the paper says
 pub holds : map (λ r. r .found) bench ≡ map (λ r. r .paper) bench
-unfolding codes distance nearFrom near readingOf twofold isLost nibbleRead bits grayOf halvesOf countOf wordOf ones kindOf every some lowest tabulate lengthGood placesGood marked offsetIn offsetOf pointerAt pointerOf reachable inOrder sound refusalOf answerOf firstRead nibbleIn countIn close decide weigh examine verdictOf readOf
+unfolding codes distance nearFrom near readingOf twofold isLost nibbleRead bits grayOf halvesOf countOf wordOf ones kindOf every some lowest lengthGood placesGood marked offsetIn offsetOf pointerAt pointerOf reachable inOrder sound refusalOf answerOf firstRead nibbleIn countIn close decide weigh examine verdictOf readOf
 holds = refl

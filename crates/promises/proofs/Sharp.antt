@@ -19,7 +19,7 @@ use Rattle.cells.specs.Put.{putAt}
 use Rattle.cells.specs.Row.{next, tryAt, walk, putRow}
 use Rattle.counter.specs.declared.places.Places.{Places}
 use Rattle.counter.specs.declared.verdict.Answer.{Answer}
-use Rattle.counter.specs.Slots.{two, kindOf, every, some, lowest, tabulate}
+use Rattle.counter.specs.Slots.{two, kindOf, every, some, lowest}
 use Rattle.counter.specs.Places.{places, lengthGood, placesGood, livesGood, fitted}
 use Rattle.counter.specs.Map.{marked, offsetIn, offsetOf, pointerAt, pointerOf, pointerBytes, reachable, inOrder, sound}
 use Rattle.counter.specs.Spares.{wholeArea, narrow, gapTo, gapOf, wayOf, nextOf, sparesOf}
@@ -59,5 +59,5 @@ abbrev measure : Chip → (List ℕ) × ℕ
 measure s = (map (λ (a : Answer). a .code) (stepsAfter 2 two tight s .answer), dataWrites tight (stepsAfter 2 two tight s .log))
 
 pub sharp : (measure (smallest 9 9) ≡ (0 ∷ 0 ∷ [], dataBound two 2 tight)) × (measure (smallest 1 9) ≡ (8 ∷ [], dataBound two 0 tight + 1))
-unfolding codes codeOf distance ones nearFrom near readingOf twofold isLost nibbleRead bits grayOf halvesOf countOf nibbleOf wordOf writeAt askedIn putAt next tryAt walk putRow kindOf every some lowest tabulate lengthGood placesGood marked offsetIn offsetOf pointerAt pointerOf pointerBytes reachable inOrder sound wholeArea narrow gapTo gapOf wayOf nextOf sparesOf refusalOf answerOf firstRead nibbleIn countIn close decide weigh examine verdictOf slotCode mapped putPointer trySpares moveTo moveSlot storeSlot storeFrom store takeFrom putPointers putMark firstOpening livesGood chipVerdict unopened openRun stepRun stepsUpTo dataBound fitted
+unfolding codes codeOf distance ones nearFrom near readingOf twofold isLost nibbleRead bits grayOf halvesOf countOf nibbleOf wordOf writeAt askedIn putAt next tryAt walk putRow kindOf every some lowest lengthGood placesGood marked offsetIn offsetOf pointerAt pointerOf pointerBytes reachable inOrder sound wholeArea narrow gapTo gapOf wayOf nextOf sparesOf refusalOf answerOf firstRead nibbleIn countIn close decide weigh examine verdictOf slotCode mapped putPointer trySpares moveTo moveSlot storeSlot storeFrom store takeFrom putPointers putMark firstOpening livesGood chipVerdict unopened openRun stepRun stepsUpTo dataBound fitted
 sharp = (refl, refl)

@@ -137,7 +137,7 @@ module _ {n copies : ℕ} {p : Places} {s : Chip} (fresh : Fresh n copies p s) w
         let tally = rw (nibble, zero-add n) at (steps .tally (8 * copy + k) (omega arith)) in
         let none = writes-none k in
         let most = writes-most n k in
-        let left = within-life (steps-within n copies p (opened copies p s)) (cellOf copies p (opened copies p s) copy k) in
+        let left = within-life (steps-within n copies p (opened copies p s)) (cellOf copies p s copy k) in
         let had = opened-life (8 * copy + k) (omega arith) in
         let lasting = opened-live (8 * copy + k) (omega arith) in
         record { first = opening .asked (8 * copy + k) (omega arith); written = omega arith; life = omega arith }

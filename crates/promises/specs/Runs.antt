@@ -56,9 +56,9 @@ unfoldable pub counting : ℕ → ℕ → ℕ → List Answer
 counting zero copies c = []
 counting (suc n) copies c = answer 0 (c + 1) (pos 0) 0 copies 0 ∷ counting n copies (c + 1)
 
--- the cell of nibble k in a copy, counted from 0
+-- the cell of nibble k in a copy, counted from 0, as the opening leaves it
 abbrev pub cellOf : ℕ → Places → Chip → ℕ → ℕ → ℕ
-cellOf copies p s copy k = pointerOf (mapIn copies p (s .cells)) (8 * copy + k)
+cellOf copies p s copy k = pointerOf (mapIn copies p (opened copies p s .cells)) (8 * copy + k)
 
 -- how often it is written in the first n steps
 unfoldable pub writesOf : ℕ → ℕ → ℕ
@@ -66,11 +66,11 @@ writesOf n k = n / 16 ^ k - n / 16 ^ (k + 1)
 
 -- that cell has been written once by the opening, and then so often, and its life has fallen by both
 pub record Worn (n copies : ℕ) (p : Places) (s : Chip) (copy k : ℕ) : Type 0 where
-  pub first : askedOf (cellOf copies p (opened copies p s) copy k) (openRun copies p s .log) ≡ 1
-  pub written : askedOf (cellOf copies p (opened copies p s) copy k) (stepsAfter n copies p s .log) ≡ writesOf n k
+  pub first : askedOf (cellOf copies p s copy k) (openRun copies p s .log) ≡ 1
+  pub written : askedOf (cellOf copies p s copy k) (stepsAfter n copies p s .log) ≡ writesOf n k
   pub life :
-      lifeAt (stepsAfter n copies p s .after) (cellOf copies p (opened copies p s) copy k) + writesOf n k + 1
-      ≡ lifeAt s (cellOf copies p (opened copies p s) copy k)
+      lifeAt (stepsAfter n copies p s .after) (cellOf copies p s copy k) + writesOf n k + 1
+      ≡ lifeAt s (cellOf copies p s copy k)
 
 -- the opening and every one of n steps answers, no spare is used, each pointer stays, and each nibble's cell is so worn
 pub record Lasts (n copies : ℕ) (p : Places) (s : Chip) : Type 0 where

@@ -9,10 +9,10 @@ use Rattle.code.specs.Entries.{readingAt}
 use Rattle.code.specs.Gray.{countOf}
 use Rattle.code.specs.Nibbles.{wordOf}
 use Rattle.code.proofs.Filled.{all-set}
+use Rattle.code.proofs.TabulateLaws.{filled}
 use Rattle.counter.specs.Slots.{two}
 use Rattle.counter.specs.Reading.{nibbleIn, countIn}
 use Rattle.counter.specs.Inside.{listed}
-use Rattle.counter.proofs.RangeTests.{tabulate-filled}
 use Rattle.counter.proofs.Weighed.{nibble-two}
 use Rattle.counter.proofs.reading.count_in.Statement.{statement}
 use Rattle.counter.proofs.reading.count_in.Tie as tie
@@ -86,7 +86,7 @@ returns c =
     let loop = c .before .before .before .loop in
     c .count-of .ensures
     ∙ ap countOf (c .before .word-of .ensures)
-    ∙ ap (λ (ns : List ℕ). countOf (wordOf ns)) (tabulate-filled (loop .nibbles) 8 _ (loop .inv .size) (λ k l. loop .inv .each k (omega arith)))
+    ∙ ap (λ (ns : List ℕ). countOf (wordOf ns)) (filled _ 0 (loop .nibbles) 8 (loop .inv .size) (λ k l. loop .inv .each k (omega arith)))
 
 pub count-in-spec : {M : Type 1} → statement M
 count-in-spec =
