@@ -14,13 +14,15 @@ cited() {
     }' docs/PROMISES.md
 }
 
-words='unfoldable|abbrev|pub|pub\(crate\)|record|data|fn|const|struct|enum'
+# How a name is declared: after a word that says as what, or, in a definition or theorem, before its type.
+kinds='record|data|fn|const|struct|enum'
+words='unfoldable|abbrev|pub|pub\(crate\)'
 names=$(cited | wc -l)
 cited | while read -r place name; do
     if [ -d "crates/$place" ]; then
         [ -f "crates/$place/$name.edit" ] || echo "$place: $name"
     else
-        grep -Eq "^ *(($words) )*$name([ :(<]|\$)" "crates/$place" || echo "$place: $name"
+        grep -Eq "^ *(($words) )*((($kinds) $name([ :(<]|\$))|$name :)" "crates/$place" || echo "$place: $name"
     fi
 done | grep . && { echo 'cited: these are cited, but not declared there'; exit 1; }
 [ "$names" -gt 0 ]

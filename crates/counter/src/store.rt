@@ -1,5 +1,5 @@
-// Storing a count (document 01, "Storing, opening, stepping"). What stores asks for a chip with its lives, good settings and
-// a sound map; the doors see to that.
+// Storing a count (document 01, "Storing, opening, stepping"). The functions that store a slot or a count ask for a chip with
+// its lives, good settings and a sound map; the doors see to that.
 ghost use mathlib.Core.Path.{_≡_};
 ghost use mathlib.Core.Bool.{true};
 ghost use Prim.Native.Nat.{_+_, _≤_, _<_};
@@ -43,7 +43,7 @@ pub struct Stored {
     pub tried: usize,
 }
 
-// A piece of storing behind work that took so many writes and tries.
+// A piece of storing behind work that took so many writes and tries, all far fewer than would make a sum too large.
 pub(crate) fn behind(writes: usize, tried: usize, stored: Stored) -> Stored
     requires { ⌜ (writes < 1048576) × (tried < 1048576) × (stored .writes < 1048576) × (stored .tried < 1048576) ⌝ }
     ensures { λ r. ⌜ ((s : Chip) → seen (r .work) (r .writes) (r .tried) s ≡ plus writes tried (seen (stored .work) (stored .writes) (stored .tried) s)) ⌝ }
@@ -222,9 +222,9 @@ fn store_pair(image: &mut [u8], lives: &mut [u32], p: Places, nibble: usize, byt
 }
 
 // The cells of a nibble, in copy 1 and in copy 2.
-pub struct Pair {
-    pub one: usize,
-    pub other: usize,
+struct Pair {
+    one: usize,
+    other: usize,
 }
 
 // Where the map says that a nibble's cells are.
@@ -239,7 +239,7 @@ fn cells_of(image: &[u8], p: Places, nibble: usize) -> Pair
     }
 }
 
-// The same where neither slot holds the byte: two writes, unless a cell is worn.
+// A byte stored in both slots of a nibble, where neither holds it: two writes, unless a cell is worn.
 fn store_both(image: &mut [u8], lives: &mut [u32], p: Places, nibble: usize, byte: u8) -> Stored
     requires { ⌜ (fitted two p (chip (now image) (now lives)) ≡ true) × (sound two p (pointerOf (mapIn two p (now image))) ≡ true) × (nibble < 8) × (dataAt (now image) (mapIn two p (now image)) nibble ≡ byte → ⊥) × (dataAt (now image) (mapIn two p (now image)) (8 + nibble) ≡ byte → ⊥) ⌝ }
     ensures { λ r. ⌜ seen (r .work) (r .writes) (r .tried) (chip (now (image .exit)) (now (lives .exit))) ≡ view (storeSlot two p nibble byte (chip (now (image .entry)) (now (lives .entry))) andThen storeSlot two p (8 + nibble) byte) ⌝ }

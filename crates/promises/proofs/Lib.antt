@@ -9,9 +9,9 @@ pub mod StepChanges
 pub mod Ample
 pub mod ExactSteps
 pub mod SettingA
-pub mod RoomlessDoors
+pub mod RoomlessStores
 pub mod RoomlessOpenings
-pub mod RoomAlways
+pub mod RoomlessDoors
 pub mod WriteCounts
 pub mod Numbers
 pub mod RoomLeft

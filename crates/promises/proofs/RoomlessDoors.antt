@@ -1,13 +1,14 @@
--- Refusal 8 of a door: in the chip as it is left, the cell of the slot that is the answer's place, and every spare of
--- its kind, have life 0 and another byte than the one stored (condition 2).
---   from-full, store-full     storing a count that ends so
---   StepFull, step-full       a step of code 8
-use Prim.Native.Nat.{ℕ, zero, suc, _+_, _≤_}
+-- Refusal 8 of a door comes exactly where the turn of the slot that it names comes, and no cell takes that slot's byte (condition 2).
+--   Roomless                  a call is refused 8, and names the slot
+--   StepFull, step-roomless   a step
+--   OpenFull, open-roomless   an opening
+use Prim.Native.Nat.{ℕ, _+_}
 use mathlib.Core.Path.{_≡_, refl, sym, ap, _∙_}
-use mathlib.Core.Logic.{_⊎_, inl, inr}
+use mathlib.Core.Bool.{Bool, true, false}
+use mathlib.Core.Logic.{_⊎_, inl, inr, _↔_}
 use native.Mathlib.Decide.{ℕ-discrete}
 use native.Mathlib.Omega.{arith}
-use lib.IntN.{ℤ}
+use lib.IntN.{ℤ, pos}
 use lib.ListN.{length}
 use Rattle.cells.specs.Chip.{Chip}
 use Rattle.cells.specs.Run.{Run}
@@ -19,132 +20,133 @@ use Rattle.counter.specs.declared.verdict.Refusal.the-variants.{NoSpare}
 use Rattle.counter.specs.declared.verdict.Verdict.{Verdict}
 use Rattle.counter.specs.declared.verdict.Verdict.the-variants.{Good, Refused}
 use Rattle.counter.specs.Slots.{slots}
-use Rattle.counter.specs.Verdict.{ending, _andThen_}
-use Rattle.counter.specs.Store.{slotCode, storeSlot, storeFrom, store}
-use Rattle.counter.specs.Reading.{verdictOf}
-use Rattle.counter.specs.Doors.{lastCount, chipVerdict, stepRun, stepOf}
-use Rattle.counter.proofs.SoundPointers.{Sound}
-use Rattle.counter.proofs.Ready.{pointers, dataOf, Ready, ready-kept}
-use Rattle.counter.proofs.Moves.{change, Ended, Ended.done, Ended.roomless, Ended.unmapped, Moves, slot-laws}
+use Rattle.counter.specs.Verdict.{Outcome, ending, _andThen_}
+use Rattle.counter.specs.Store.{store}
+use Rattle.counter.specs.Doors.{lastCount, chipVerdict, unopened, openRun, stepRun, openOf, stepOf}
+use Rattle.counter.proofs.Ready.{ready-kept}
+use Rattle.counter.proofs.Moves.{Ended, Ended.done, Ended.roomless, Ended.unmapped}
 use Rattle.counter.proofs.Stores.{Stores, store-laws, done-then, stopped-then}
-use Rattle.counter.proofs.WorkSteps.{store-all, store-none, store-next}
-use Rattle.counter.proofs.DoorAnswers.{code-eight, step-is}
+use Rattle.counter.proofs.DoorAnswers.{code-eight, spareless-code, spareless-place, open-is, step-is}
+use Rattle.counter.proofs.DoorViews.{unopened-ready, open-first, open-again, reopening-refused, reopening-good, step-refused, step-last, step-on}
 use Rattle.counter.proofs.GoodVerdicts.{VerdictGood, verdict-good, verdict-room}
-use Rattle.counter.proofs.DoorViews.{step-refused, step-last, step-on}
-use Rattle.promises.proofs.Room.{Full, slot-only}
+use Rattle.promises.proofs.RoomlessStores.{StoreFull, store-roomless}
+use Rattle.promises.proofs.RoomlessOpenings.{OpeningFull, opening-roomless}
 
-module _ (copies : ℕ) (p : Places) (c : ℕ) where
-  -- storing that ends so has ended so at one slot, and done nothing behind it
-  pub from-full :
-      (n k : ℕ) (s : Chip) (j : ℕ) → k + n ≤ slots copies → Ready copies p s
-      → Sound (slots copies) p (pointers copies p s)
-      → storeFrom n k copies p c s .answer ≡ Stopped (NoSpare j)
-      → Full copies p j (slotCode c j) (storeFrom n k copies p c s .after)
-  from-full zero k s j fits ready sound e =
-      let q = sym (ap (λ (w : Run Work). w .answer) (store-none copies p c k s)) ∙ e in
-      let z : _≡_ {A = ℕ} 0 1 = cc in absurd (omega arith)
-  from-full (suc n) k s j fits ready sound e = rw (store-next copies p c n k s) (go (from-full n (k + 1)) (slot .ended))
-    where
-      r : Run Work
-      r = storeSlot copies p k (slotCode c k) s
-
-      rest : Chip → Run Work
-      rest = storeFrom n (k + 1) copies p c
-
-      stops : (r andThen rest) .answer ≡ Stopped (NoSpare j)
-      stops = sym (ap (λ (w : Run Work). w .answer) (store-next copies p c n k s)) ∙ e
-
-      slot : Moves copies p k (slotCode c k) (change (dataOf copies p s k) (slotCode c k)) s r
-      slot = slot-laws ready sound k (omega arith) (slotCode c k)
-
-      Rest : Type 0
-      Rest =
-          (s : Chip) (j : ℕ) → k + 1 + n ≤ slots copies → Ready copies p s
-          → Sound (slots copies) p (pointers copies p s)
-          → rest s .answer ≡ Stopped (NoSpare j)
-          → Full copies p j (slotCode c j) (rest s .after)
-
-      here : (i : ℕ) → r .answer ≡ Stopped (NoSpare i) → Full copies p i (slotCode c i) (r .after)
-      here i q = let x = slot-only ready k (omega arith) (slotCode c k) i q in rw (x .0, x .1) (x .2)
-
-      go : Rest → Ended (r .answer) → Full copies p j (slotCode c j) ((r andThen rest) .after)
-      go later (done q) =
-          let h = ap (λ (w : Run Work). w .answer) (done-then r rest q) in
-          rw (done-then r rest q) (later (r .after) j (omega arith) (ready-kept ready (within-kept (slot .within))) (slot .settles q .sound) (sym h ∙ stops))
-      go later (roomless i q) =
-          let h = ap (λ (w : Run Work). w .answer) (stopped-then r rest _ q) in
-          rw (stopped-then r rest _ q) (here j (sym h ∙ stops))
-      go later (unmapped a q) =
-          let h = sym (ap (λ (w : Run Work). w .answer) (stopped-then r rest _ q)) ∙ stops in
-          let z : _≡_ {A = ℕ} 0 1 = cc in absurd (omega arith)
-
-  pub store-full :
-      (s : Chip) (j : ℕ) → Ready copies p s → Sound (slots copies) p (pointers copies p s)
-      → store copies p c s .answer ≡ Stopped (NoSpare j)
-      → Full copies p j (slotCode c j) (store copies p c s .after)
-  store-full s j ready sound e = rw (store-all copies p c s) (from-full (slots copies) 0 s j (omega arith) ready sound (rw (store-all copies p c s) at e))
-
--- ## A step
-
--- the count that was being stored, the one read or the next, and its byte, refused by the slot's cell and every spare
-pub record StepFull (copies : ℕ) (p : Places) (s : Chip) (k : ℕ) : Type 0 where
-  pub count : ℕ
-  pub lag : ℤ
-  pub reads : verdictOf copies p (s .cells) ≡ Good count lag
-  pub full :
-      Full copies p k (slotCode count k) (stepRun copies p s .after)
-      ⊎ Full copies p k (slotCode (count + 1) k) (stepRun copies p s .after)
+-- refused 8, and the slot named
+abbrev pub Roomless : ℕ → Outcome → Type 0
+Roomless k o = (o .says .code ≡ 8) × (o .says .place ≡ k)
 
 -- a call that found no spare ended its storing so
-pub ending-stopped : (k c : ℕ) (lag : ℤ) (w : Work) → ending (Good c lag) w ≡ Refused (NoSpare k) → w ≡ Stopped (NoSpare k)
+ending-stopped : (k c : ℕ) (lag : ℤ) (w : Work) → ending (Good c lag) w ≡ Refused (NoSpare k) → w ≡ Stopped (NoSpare k)
 ending-stopped k c lag Done e = let z : _≡_ {A = ℕ} 0 1 = cc in absurd (omega arith)
 ending-stopped k c lag (Stopped why) e = let q : why ≡ NoSpare k = cc in ap Stopped q
 
-module _ {copies : ℕ} {p : Places} {c : ℕ} {s : Chip} (v : VerdictGood copies p c s) (d k : ℕ) where
-  -- one count stored, and then another
-  two-full :
-      (store copies p c s andThen store copies p d) .answer ≡ Stopped (NoSpare k)
-      → Full copies p k (slotCode c k) ((store copies p c s andThen store copies p d) .after)
-      ⊎ Full copies p k (slotCode d k) ((store copies p c s andThen store copies p d) .after)
-  two-full e = go (laws .ended)
+-- ## A step
+
+-- in the store of the count that was read, or, when that is done, in the store of the next
+abbrev pub TwoFull : ℕ → Places → ℕ → ℕ → Chip → Type 0
+TwoFull copies p c k s = StoreFull copies p c k s ⊎ ((store copies p c s .answer ≡ Done) × StoreFull copies p (c + 1) k (store copies p c s .after))
+
+pub record StepFull (copies : ℕ) (p : Places) (s : Chip) (k : ℕ) : Type 0 where
+  pub count : ℕ
+  pub lag : ℤ
+  pub reads : chipVerdict copies p s ≡ Good count lag
+  pub more : count ≡ lastCount → ⊥
+  pub full : TwoFull copies p count k s
+
+module _ {copies : ℕ} {p : Places} {c : ℕ} {s : Chip} (v : VerdictGood copies p c s) (k : ℕ) where
+  abbrev settled : Run Work
+  settled = store copies p c s
+
+  abbrev stepped : Chip → Run Work
+  stepped = store copies p (c + 1)
+
+  laws : Stores copies p (slots copies) 0 c s settled
+  laws = store-laws copies p c s (v .ready) (v .sound)
+
+  once : (settled .answer ≡ Stopped (NoSpare k)) ↔ StoreFull copies p c k s
+  once = store-roomless copies p c s k (v .ready) (v .sound)
+
+  once-more : settled .answer ≡ Done → (stepped (settled .after) .answer ≡ Stopped (NoSpare k)) ↔ StoreFull copies p (c + 1) k (settled .after)
+  once-more q = store-roomless copies p (c + 1) (settled .after) k (ready-kept (v .ready) (within-kept (laws .within))) (laws .stored q .sound)
+
+  two-roomless : ((settled andThen stepped) .answer ≡ Stopped (NoSpare k)) ↔ TwoFull copies p c k s
+  two-roomless = (λ e. only e (laws .ended), always)
     where
-      r : Run Work
-      r = store copies p c s
+      answers : {r q : Run Work} → r ≡ q → r .answer ≡ q .answer
+      answers e = ap (λ (w : Run Work). w .answer) e
 
-      laws : Stores copies p (slots copies) 0 c s r
-      laws = store-laws copies p c s (v .ready) (v .sound)
-
-      go :
-          Ended (r .answer)
-          → Full copies p k (slotCode c k) ((r andThen store copies p d) .after) ⊎ Full copies p k (slotCode d k) ((r andThen store copies p d) .after)
-      go (done q) =
-          let h = ap (λ (w : Run Work). w .answer) (done-then r (store copies p d) q) in
-          rw (done-then r (store copies p d) q)
-          (inr (store-full copies p d (r .after) k (ready-kept (v .ready) (within-kept (laws .within))) (laws .stored q .sound) (sym h ∙ e)))
-      go (roomless i q) =
-          let h = ap (λ (w : Run Work). w .answer) (stopped-then r (store copies p d) _ q) in
-          rw (stopped-then r (store copies p d) _ q) (inl (store-full copies p c s k (v .ready) (v .sound) (sym h ∙ e)))
-      go (unmapped a q) =
-          let h = ap (λ (w : Run Work). w .answer) (stopped-then r (store copies p d) _ q) in
+      only : (settled andThen stepped) .answer ≡ Stopped (NoSpare k) → Ended (settled .answer) → TwoFull copies p c k s
+      only e (done q) = inr (q, once-more q .0 (sym (answers (done-then settled stepped q)) ∙ e))
+      only e (roomless i q) = inl (once .0 (sym (answers (stopped-then settled stepped _ q)) ∙ e))
+      only e (unmapped a q) =
+          let h = sym q ∙ sym (answers (stopped-then settled stepped _ q)) ∙ e in
           let z : _≡_ {A = ℕ} 0 1 = cc in absurd (omega arith)
 
-module _ (copies : ℕ) (p : Places) (s : Chip) (k : ℕ) (e : stepRun copies p s .answer ≡ Refused (NoSpare k)) where
-  run-full : (v : Verdict) → chipVerdict copies p s ≡ v → StepFull copies p s k
-  run-full (Refused why) q =
+      always : TwoFull copies p c k s → (settled andThen stepped) .answer ≡ Stopped (NoSpare k)
+      always (inl full) = let q = once .1 full in answers (stopped-then settled stepped _ q) ∙ q
+      always (inr (q, full)) = answers (done-then settled stepped q) ∙ once-more q .1 full
+
+module _ (copies : ℕ) (p : Places) (s : Chip) (k : ℕ) where
+  step-only : stepRun copies p s .answer ≡ Refused (NoSpare k) → (v : Verdict) → chipVerdict copies p s ≡ v → StepFull copies p s k
+  step-only e (Refused why) q =
       let h = sym (ap (λ (r : Run Verdict). r .answer) (step-refused copies p s why q)) ∙ e in
       absurd (verdict-room {k = k} copies p s (q ∙ h))
-  run-full (Good c lag) q = counted (ℕ-discrete c lastCount)
+  step-only e (Good c lag) q = counted (ℕ-discrete c lastCount)
     where
       counted : Dec (c ≡ lastCount) → StepFull copies p s k
       counted (yes l) = let h = sym (ap (λ (r : Run Verdict). r .answer) (step-last copies p s c lag q l)) ∙ e in let z : _≡_ {A = ℕ} 0 1 = cc in absurd (omega arith)
       counted (no n) =
-          let on = step-on copies p s c lag q n in
-          let read = verdict-good copies p s q in
-          let stops = ending-stopped k (c + 1) lag _ (sym (ap (λ (r : Run Verdict). r .answer) on) ∙ e) in
-          record { count = c; lag = lag; reads = read .0; full = rw on (two-full (read .1) (c + 1) k stops) }
+          let stops = ending-stopped k (c + 1) lag _ (sym (ap (λ (r : Run Verdict). r .answer) (step-on copies p s c lag q n)) ∙ e) in
+          record { count = c; lag = lag; reads = q; more = n; full = two-roomless (verdict-good copies p s q .1) k .0 stops }
 
--- a step of code 8 finds the cell of the slot that it names, and every spare of that kind, refusing the byte
-pub step-full : (copies : ℕ) (p : Places) (s : Chip) → stepOf copies p s .says .code ≡ 8 → StepFull copies p s (stepOf copies p s .says .place)
-step-full copies p s =
-    rw (step-is copies p s)
-    (λ e. run-full copies p s _ (code-eight (stepRun copies p s .answer) (length (stepRun copies p s .log)) (stepRun copies p s .tried) e) (chipVerdict copies p s) refl)
+  step-ends : StepFull copies p s k → stepRun copies p s .answer ≡ Refused (NoSpare k)
+  step-ends f =
+      ap (λ (r : Run Verdict). r .answer) (step-on copies p s (f .count) (f .lag) (f .reads) (f .more))
+      ∙ ap (ending (Good (f .count + 1) (f .lag))) (two-roomless (verdict-good copies p s (f .reads) .1) k .1 (f .full))
+
+  pub step-roomless : Roomless k (stepOf copies p s) ↔ StepFull copies p s k
+  step-roomless =
+      rw (step-is copies p s) (
+        λ (e, at). step-only (code-eight (stepRun copies p s .answer) (length (stepRun copies p s .log)) (stepRun copies p s .tried) e ∙ ap (λ (j : ℕ). Refused (NoSpare j)) at) (chipVerdict copies p s) refl,
+        λ f. (spareless-code (stepRun copies p s) (step-ends f), spareless-place (stepRun copies p s) (step-ends f)),
+      )
+
+-- ## An opening
+
+-- in a first opening, or in the store of the count that was read
+pub data OpenFull (copies : ℕ) (p : Places) (s : Chip) (k : ℕ) : Type 0 where
+  first : unopened copies p s ≡ true → OpeningFull copies p k s → OpenFull copies p s k
+  again : unopened copies p s ≡ false → (c : ℕ) (lag : ℤ) → chipVerdict copies p s ≡ Good c lag → StoreFull copies p c k s → OpenFull copies p s k
+
+module _ (copies : ℕ) (p : Places) (s : Chip) (k : ℕ) where
+  open-only : openRun copies p s .answer ≡ Refused (NoSpare k) → (t : Bool) → unopened copies p s ≡ t → OpenFull copies p s k
+  open-only e true q =
+      let stops = ending-stopped k 0 (pos 0) _ (sym (ap (λ (r : Run Verdict). r .answer) (open-first copies p s q)) ∙ e) in
+      first q (opening-roomless (unopened-ready copies p s q) k .0 stops)
+  open-only e false q = read (chipVerdict copies p s) refl
+    where
+      read : (v : Verdict) → chipVerdict copies p s ≡ v → OpenFull copies p s k
+      read (Refused why) h =
+          let run = open-again copies p s q ∙ reopening-refused copies p s why h in
+          absurd (verdict-room {k = k} copies p s (h ∙ sym (ap (λ (r : Run Verdict). r .answer) run) ∙ e))
+      read (Good c lag) h =
+          let run = open-again copies p s q ∙ reopening-good copies p s c lag h in
+          let v = verdict-good copies p s h .1 in
+          let stops = ending-stopped k c lag _ (sym (ap (λ (r : Run Verdict). r .answer) run) ∙ e) in
+          again q c lag h (store-roomless copies p c s k (v .ready) (v .sound) .0 stops)
+
+  open-ends : OpenFull copies p s k → openRun copies p s .answer ≡ Refused (NoSpare k)
+  open-ends (first q f) =
+      ap (λ (r : Run Verdict). r .answer) (open-first copies p s q) ∙ ap (ending (Good 0 (pos 0))) (opening-roomless (unopened-ready copies p s q) k .1 f)
+  open-ends (again q c lag h f) =
+      let v = verdict-good copies p s h .1 in
+      ap (λ (r : Run Verdict). r .answer) (open-again copies p s q ∙ reopening-good copies p s c lag h)
+      ∙ ap (ending (Good c lag)) (store-roomless copies p c s k (v .ready) (v .sound) .1 f)
+
+  pub open-roomless : Roomless k (openOf copies p s) ↔ OpenFull copies p s k
+  open-roomless =
+      rw (open-is copies p s) (
+        λ (e, at). open-only (code-eight (openRun copies p s .answer) (length (openRun copies p s .log)) (openRun copies p s .tried) e ∙ ap (λ (j : ℕ). Refused (NoSpare j)) at) (unopened copies p s) refl,
+        λ f. (spareless-code (openRun copies p s) (open-ends f), spareless-place (openRun copies p s) (open-ends f)),
+      )

@@ -1,17 +1,13 @@
--- Refusal 8 of open (condition 2). Where the mark is there, as of a step; in a first opening only the addresses that it
--- has taken so far count as pointers, and every spare of the kind, given those, refuses the code of 0.
---   TakeFull, take-full       the taking of addresses that ends so
---   opening-full              a first opening that ends so
---   OpenFull, open-full       an open of code 8
+-- A first opening is stopped for want of room exactly where the turn of a slot comes, and every spare that the addresses taken so
+-- far leave for it refuses the code of 0 (condition 2).
+--   OpeningFull, opening-roomless
 use Prim.Native.Nat.{ℕ, zero, suc, _+_, _<_}
-use mathlib.Core.Path.{_≡_, refl, sym, ap, _∙_}
-use mathlib.Core.Bool.{Bool, true, false}
+use mathlib.Core.Path.{_≡_, sym, ap, _∙_}
 use mathlib.Core.List.{List}
-use mathlib.Core.Logic.{_⊎_, inl, inr}
+use mathlib.Core.Logic.{_⊎_, inl, inr, _↔_}
 use native.Mathlib.Nat.{add-zero, zero-add}
 use native.Mathlib.Numerals.{add-one}
 use native.Mathlib.Omega.{arith}
-use lib.IntN.{ℤ, pos}
 use lib.ListN.{length, getD}
 use Rattle.code.specs.Codes.{codeOf}
 use Rattle.cells.specs.Chip.{Chip, Paired}
@@ -24,83 +20,122 @@ use Rattle.counter.specs.declared.spares.Gap.{Gap}
 use Rattle.counter.specs.declared.verdict.Work.{Work}
 use Rattle.counter.specs.declared.verdict.Work.the-variants.{Done, Stopped}
 use Rattle.counter.specs.declared.verdict.Refusal.the-variants.{NoSpare}
-use Rattle.counter.specs.declared.verdict.Verdict.{Verdict}
-use Rattle.counter.specs.declared.verdict.Verdict.the-variants.{Good, Refused}
 use Rattle.counter.specs.Slots.{slots, kindOf}
 use Rattle.counter.specs.Spares.{wholeArea, narrow}
 use Rattle.counter.specs.Verdict.{_andThen_}
-use Rattle.counter.specs.Reading.{verdictOf}
-use Rattle.counter.specs.Store.{slotCode, trySpares}
+use Rattle.counter.specs.Store.{trySpares}
 use Rattle.counter.specs.Opening.{Taken, takeFrom, putPointers, putMark, firstOpening}
-use Rattle.counter.specs.Doors.{chipVerdict, unopened, openRun, openOf}
 use Rattle.counter.specs.Inside.{listed}
 use Rattle.counter.proofs.Gaps.{Between, between-none, between-more, Spare, spare-free}
 use Rattle.counter.proofs.Ready.{Ready, ready-kept}
-use Rattle.counter.proofs.Tries.{Missing, Landing, Trying, Trying.missing, Trying.landing, try-laws}
+use Rattle.counter.proofs.Tries.{Landing, Trying, Trying.missing, Trying.landing, try-laws}
+use Rattle.counter.proofs.Moves.{not-done, Ended.done, Ended.roomless, Ended.unmapped}
 use Rattle.counter.proofs.Takes.{Takes, take-landing, take-missing, take-laws}
-use Rattle.counter.proofs.Openings.{MapEnded, MapEnded.put, MapEnded.failed, maps-laws}
 use Rattle.counter.proofs.WorkSteps.{take-none, opening-on, opening-ends}
-use Rattle.counter.proofs.DoorViews.{unopened-ready, open-first, open-again, reopening-refused, reopening-good}
-use Rattle.counter.proofs.DoorAnswers.{code-eight, open-is}
-use Rattle.counter.proofs.GoodVerdicts.{verdict-good, verdict-room}
-use Rattle.promises.proofs.Room.{Full}
-use Rattle.promises.proofs.RoomlessDoors.{ending-stopped, store-full}
+use Rattle.counter.proofs.Openings.{MapEnded, MapEnded.put, MapEnded.failed, maps-laws}
+use Rattle.promises.proofs.Room.{take-roomless}
 
--- the slot that has no address is the one behind those taken, and every spare that they leave for it refuses
-pub record TakeFull (k : ℕ) (g : Gap) (j : ℕ) (r : Run Taken) : Type 0 where
-  pub slot : j ≡ k + length (r .answer .addresses)
+-- the slots before k took their addresses, and then every spare that these leave for slot k refuses the code of 0
+pub record OpeningFull (copies : ℕ) (p : Places) (k : ℕ) (s : Chip) : Type 0 where
+  pub inside : k < slots copies
+  pub before : takeFrom k 0 (wholeArea p) s .answer .work ≡ Done
   pub full :
-      (p : Places) (pointer : ℕ → ℕ)
-      → ((i : ℕ) → i < length (r .answer .addresses) → pointer (k + i) ≡ getD (r .answer .addresses) i 0)
-      → Between k p pointer g
-      → (a : ℕ) → Spare (kindOf j) j p pointer a → Refuses a (codeOf 0) (r .after)
+      (a : ℕ) → Spare (kindOf k) k p (λ j. getD (takeFrom k 0 (wholeArea p) s .answer .addresses) j 0) a
+      → Refuses a (codeOf 0) (takeFrom k 0 (wholeArea p) s .after)
 
-module _ (n k : ℕ) (g : Gap) (s : Chip) (j : ℕ) where
-  take-missed : Missing k g (codeOf 0) s → takeFrom (suc n) k g s .answer .work ≡ Stopped (NoSpare j) → TakeFull k g j (takeFrom (suc n) k g s)
-  take-missed m e =
-      let q = take-missing n k g s (m .nowhere) in
-      let here : j ≡ k = (let same = sym e ∙ ap (λ (r : Run Taken). r .answer .work) q in cc) in
-      rw (q, here)
-      (record {
-        slot = sym (add-zero k);
-        full = λ p pointer at between a f. rw (m .same) (m .refused a (spare-free between f));
-      })
+-- no spare that the pointers of the first so many slots leave for the next takes the code of 0
+abbrev Bare : ℕ → Places → (ℕ → ℕ) → Chip → Type 0
+Bare k p pointer s = (a : ℕ) → Spare (kindOf k) k p pointer a → Refuses a (codeOf 0) s
 
-  take-more :
-      (m : Landing k g (codeOf 0) s)
-      → TakeFull (k + 1) (narrow (kindOf k) (m .place) g) j (takeFrom n (k + 1) (narrow (kindOf k) (m .place) g) (trySpares k g (codeOf 0) s .after))
-      → TakeFull k g j (takeFrom (suc n) k g s)
-  take-more m t =
-      rw (take-landing n k g s (m .place) (m .here))
-      (record {
-        slot = let h = t .slot in omega arith;
-        full = λ p pointer at between a f.
-            t .full p pointer
-            (λ i l. let e : k + 1 + i ≡ k + suc i = omega arith in rw e (at (suc i) (omega arith)))
-            (rw add-one (between-more between (m .place) (rw add-zero at (at 0 (omega arith)))))
-            a f;
-      })
+-- pointers from slot k on that are these addresses
+abbrev Listed : ℕ → List ℕ → (ℕ → ℕ) → Type 0
+Listed k addresses pointer = (j : ℕ) → j < length addresses → pointer (k + j) ≡ getD addresses j 0
 
--- no addresses, no refusal
-none-taken : (k : ℕ) (g : Gap) (s : Chip) (j : ℕ) → takeFrom 0 k g s .answer .work ≡ Stopped (NoSpare j) → ⊥
-none-taken k g s j e =
-    let q = sym (ap (λ (r : Run Taken). r .answer .work) (take-none k g s)) ∙ e in
-    let z : _≡_ {A = ℕ} 0 1 = cc in omega arith
-
-pub take-full :
-    (n k : ℕ) (g : Gap) (s : Chip) (j : ℕ) → Paired s → takeFrom n k g s .answer .work ≡ Stopped (NoSpare j)
-    → TakeFull k g j (takeFrom n k g s)
-take-full zero k g s j paired e = absurd (none-taken k g s j e)
-take-full (suc n) k g s j paired e = go (λ m. take-full n (k + 1) (narrow (kindOf k) (m .place) g) (trySpares k g (codeOf 0) s .after) j (kept-paired (m .kept) paired)) (try-laws k g (codeOf 0) s paired .trying)
+take-always :
+    (i m k : ℕ) (g : Gap) (s : Chip) (p : Places) (pointer : ℕ → ℕ) → i < m → Paired s
+    → takeFrom i k g s .answer .work ≡ Done
+    → Listed k (takeFrom i k g s .answer .addresses) pointer
+    → Between k p pointer g
+    → Bare (k + i) p pointer (takeFrom i k g s .after)
+    → takeFrom m k g s .answer .work ≡ Stopped (NoSpare (k + i))
+take-always i zero k g s p pointer l paired e at between bare = absurd (omega arith)
+take-always zero (suc m) k g s p pointer l paired e at between bare =
+    let here : Bare k p pointer s = rw (take-none k g s, add-zero) at bare in
+    ap (λ (r : Run Taken). r .answer .work) (take-missing m k g s (take-roomless s paired between .1 here)) ∙ ap (λ (j : ℕ). Stopped (NoSpare j)) (sym (add-zero k))
+take-always (suc i) (suc m) k g s p pointer l paired e at between bare = go (take-always i m (k + 1)) (try-laws k g (codeOf 0) s paired .trying)
   where
-    go :
-        ((m : Landing k g (codeOf 0) s) → takeFrom n (k + 1) (narrow (kindOf k) (m .place) g) (trySpares k g (codeOf 0) s .after) .answer .work ≡ Stopped (NoSpare j)
-        → TakeFull (k + 1) (narrow (kindOf k) (m .place) g) j (takeFrom n (k + 1) (narrow (kindOf k) (m .place) g) (trySpares k g (codeOf 0) s .after)))
-        → Trying k g (codeOf 0) s → TakeFull k g j (takeFrom (suc n) k g s)
-    go later (missing m) = take-missed n k g s j m e
-    go later (landing m) = take-more n k g s j m (later m (sym (ap (λ (r : Run Taken). r .answer .work) (take-landing n k g s (m .place) (m .here))) ∙ e))
+    Later : Type 0
+    Later =
+        (g : Gap) (s : Chip) (p : Places) (pointer : ℕ → ℕ) → i < m → Paired s
+        → takeFrom i (k + 1) g s .answer .work ≡ Done
+        → Listed (k + 1) (takeFrom i (k + 1) g s .answer .addresses) pointer
+        → Between (k + 1) p pointer g
+        → Bare (k + 1 + i) p pointer (takeFrom i (k + 1) g s .after)
+        → takeFrom m (k + 1) g s .answer .work ≡ Stopped (NoSpare (k + 1 + i))
 
--- ## A first opening
+    go : Later → Trying k g (codeOf 0) s → takeFrom (suc m) k g s .answer .work ≡ Stopped (NoSpare (k + suc i))
+    go later (missing t) = not-done (sym (ap (λ (r : Run Taken). r .answer .work) (take-missing i k g s (t .nowhere))) ∙ e)
+    go later (landing t) =
+        let early = take-landing i k g s (t .place) (t .here) in
+        let moved : k + 1 + i ≡ k + suc i = omega arith in
+        let at′ : (j : ℕ) → j < length (takeFrom (suc i) k g s .answer .addresses) → pointer (k + j) ≡ getD (takeFrom (suc i) k g s .answer .addresses) j 0 = at in
+        let held = rw early at at′ in
+        let here = rw (← moved) at (rw early at bare) in
+        ap (λ (r : Run Taken). r .answer .work) (take-landing m k g s (t .place) (t .here))
+        ∙ later (narrow (kindOf k) (t .place) g) (trySpares k g (codeOf 0) s .after) p pointer (omega arith) (kept-paired (t .kept) paired)
+        (sym (ap (λ (r : Run Taken). r .answer .work) early) ∙ e)
+        (λ j l. let q : k + 1 + j ≡ k + suc j = omega arith in rw q (held (suc j) (omega arith)))
+        (rw add-one (between-more between (t .place) (rw add-zero at (held 0 (omega arith)))))
+        here
+        ∙ ap (λ (j : ℕ). Stopped (NoSpare j)) moved
+
+-- where a taking ended so: the slots before it took their addresses, and it found every spare that they leave refusing
+record Stop (n k j : ℕ) (g : Gap) (s : Chip) : Type 0 where
+  many : ℕ
+  slot : j ≡ k + many
+  inside : many < n
+  before : takeFrom many k g s .answer .work ≡ Done
+  bare : (p : Places) (pointer : ℕ → ℕ) → Listed k (takeFrom many k g s .answer .addresses) pointer → Between k p pointer g → Bare j p pointer (takeFrom many k g s .after)
+
+take-only : (n k : ℕ) (g : Gap) (s : Chip) (j : ℕ) → Paired s → takeFrom n k g s .answer .work ≡ Stopped (NoSpare j) → Stop n k j g s
+take-only zero k g s j paired e = not-done (sym e ∙ ap (λ (r : Run Taken). r .answer .work) (take-none k g s))
+take-only (suc n) k g s j paired e = go (take-only n (k + 1)) (try-laws k g (codeOf 0) s paired .trying)
+  where
+    Later : Type 0
+    Later = (g : Gap) (s : Chip) (j : ℕ) → Paired s → takeFrom n (k + 1) g s .answer .work ≡ Stopped (NoSpare j) → Stop n (k + 1) j g s
+
+    -- it ended at a later slot
+    there :
+        (t : Landing k g (codeOf 0) s)
+        → Stop n (k + 1) j (narrow (kindOf k) (t .place) g) (trySpares k g (codeOf 0) s .after)
+        → Stop (suc n) k j g s
+    there t x =
+        let all = take-landing (x .many) k g s (t .place) (t .here) in
+        record {
+          many = suc (x .many);
+          slot = let h = x .slot in omega arith;
+          inside = let h = x .inside in omega arith;
+          before = ap (λ (r : Run Taken). r .answer .work) all ∙ x .before;
+          bare = rw all
+              (λ p pointer at between.
+              x .bare p pointer
+              (λ i l. let q : k + 1 + i ≡ k + suc i = omega arith in rw q (at (suc i) (omega arith)))
+              (rw add-one (between-more between (t .place) (rw add-zero at (at 0 (omega arith))))));
+        }
+
+    go : Later → Trying k g (codeOf 0) s → Stop (suc n) k j g s
+    go later (missing t) =
+        let none = take-none k g s in
+        let same : j ≡ k = (let q = sym e ∙ ap (λ (r : Run Taken). r .answer .work) (take-missing n k g s (t .nowhere)) in cc) in
+        record {
+          many = 0;
+          slot = same ∙ sym (add-zero k);
+          inside = omega arith;
+          before = ap (λ (r : Run Taken). r .answer .work) none;
+          bare = rw (none, same) (λ p pointer at between a f. t .refused a (spare-free between f));
+        }
+    go later (landing t) =
+        there t (later (narrow (kindOf k) (t .place) g) (trySpares k g (codeOf 0) s .after) j (kept-paired (t .kept) paired) (sym (ap (λ (r : Run Taken). r .answer .work) (take-landing n k g s (t .place) (t .here))) ∙ e))
 
 module _ {copies : ℕ} {p : Places} {s : Chip} (ready : Ready copies p s) where
   abbrev taking : Run Taken
@@ -112,73 +147,39 @@ module _ {copies : ℕ} {p : Places} {s : Chip} (ready : Ready copies p s) where
   takes : Takes (slots copies) 0 (wholeArea p) s taking
   takes = take-laws (slots copies) 0 (wholeArea p) s (ready .paired)
 
-  -- one that found no spare ended its taking so, and did nothing behind it
-  opening-taking :
-      (j : ℕ) → firstOpening copies p s .answer ≡ Stopped (NoSpare j)
-      → (taking .answer .work ≡ Stopped (NoSpare j)) × (firstOpening copies p s .after ≡ taking .after)
+  -- an opening that found no spare ended its taking so
+  opening-taking : (j : ℕ) → firstOpening copies p s .answer ≡ Stopped (NoSpare j) → taking .answer .work ≡ Stopped (NoSpare j)
   opening-taking j e = go (takes .either)
     where
       mapped-out : MapEnded (mapping (taking .after) .answer) → mapping (taking .after) .answer ≡ Stopped (NoSpare j) → ⊥
       mapped-out (put d) q = let z : _≡_ {A = ℕ} 0 1 = cc in omega arith
       mapped-out (failed a d) q = let z : _≡_ {A = ℕ} 0 1 = cc in omega arith
 
-      go :
-          (taking .answer .work ≡ Done) ⊎ ((i : ℕ) × (taking .answer .work ≡ Stopped (NoSpare i)))
-          → (taking .answer .work ≡ Stopped (NoSpare j)) × (firstOpening copies p s .after ≡ taking .after)
+      go : (taking .answer .work ≡ Done) ⊎ ((i : ℕ) × (taking .answer .work ≡ Stopped (NoSpare i))) → taking .answer .work ≡ Stopped (NoSpare j)
       go (inl d) =
           let maps = maps-laws (ready-kept ready (within-kept (takes .within))) (taking .answer .addresses) (takes .all d .many) in
           absurd (mapped-out (maps .ended) (sym (ap (λ (w : Run Work). w .answer) (opening-on copies p s d)) ∙ e))
-      go (inr (i, d)) =
-          let h = opening-ends copies p s d in
-          (sym (ap (λ (w : Run Work). w .answer) h) ∙ e, ap (λ (w : Run Work). w .after) h)
+      go (inr (i, d)) = sym (ap (λ (w : Run Work). w .answer) (opening-ends copies p s d)) ∙ e
 
-  pub opening-full :
-      (j : ℕ) → firstOpening copies p s .answer ≡ Stopped (NoSpare j)
-      → (j ≡ length (taking .answer .addresses))
-      × ((a : ℕ) → Spare (kindOf j) j p (listed (taking .answer .addresses)) a → Refuses a (codeOf 0) (firstOpening copies p s .after))
-  opening-full j e =
-      let t = opening-taking j e in
-      let f = take-full (slots copies) 0 (wholeArea p) s j (ready .paired) (t .0) in
-      let pointer = listed (taking .answer .addresses) in
-      (f .slot ∙ zero-add _, λ a h. rw (t .1) (f .full p pointer (λ i l. ap pointer (zero-add i)) (between-none p pointer) a h))
+  pub opening-roomless : (k : ℕ) → (firstOpening copies p s .answer ≡ Stopped (NoSpare k)) ↔ OpeningFull copies p k s
+  opening-roomless k = (only, always)
+    where
+      only : firstOpening copies p s .answer ≡ Stopped (NoSpare k) → OpeningFull copies p k s
+      only e =
+          let x = take-only (slots copies) 0 (wholeArea p) s k (ready .paired) (opening-taking k e) in
+          let same : x .many ≡ k = sym (x .slot ∙ zero-add (x .many)) in
+          let pointer = listed (takeFrom (x .many) 0 (wholeArea p) s .answer .addresses) in
+          record {
+            inside = rw (← same) (x .inside);
+            before = rw same at (x .before);
+            full = rw same at (x .bare p pointer (λ i l. ap pointer (zero-add i)) (between-none p pointer));
+          }
 
--- ## Open
-
--- in a first opening, over the addresses taken; else as of a step that stores the count read
-pub data OpenFull (copies : ℕ) (p : Places) (s : Chip) (k : ℕ) : Type 0 where
-  first :
-      (taken : List ℕ) → length taken ≡ k
-      → ((a : ℕ) → Spare (kindOf k) k p (listed taken) a → Refuses a (codeOf 0) (openRun copies p s .after))
-      → OpenFull copies p s k
-  again :
-      (c : ℕ) (lag : ℤ) → verdictOf copies p (s .cells) ≡ Good c lag
-      → Full copies p k (slotCode c k) (openRun copies p s .after)
-      → OpenFull copies p s k
-
-module _ (copies : ℕ) (p : Places) (s : Chip) where
-  module _ (k : ℕ) (e : openRun copies p s .answer ≡ Refused (NoSpare k)) where
-    full-first : unopened copies p s ≡ true → OpenFull copies p s k
-    full-first q =
-        let run = open-first copies p s q in
-        let stops = ending-stopped k 0 (pos 0) _ (sym (ap (λ (r : Run Verdict). r .answer) run) ∙ e) in
-        let f = opening-full (unopened-ready copies p s q) k stops in
-        first (takeFrom (slots copies) 0 (wholeArea p) s .answer .addresses) (sym (f .0)) (rw run (f .1))
-
-    full-again : unopened copies p s ≡ false → (v : Verdict) → chipVerdict copies p s ≡ v → OpenFull copies p s k
-    full-again q (Refused why) h =
-        let run = open-again copies p s q ∙ reopening-refused copies p s why h in
-        absurd (verdict-room {k = k} copies p s (h ∙ sym (ap (λ (r : Run Verdict). r .answer) run) ∙ e))
-    full-again q (Good c lag) h =
-        let run = open-again copies p s q ∙ reopening-good copies p s c lag h in
-        let read = verdict-good copies p s h in
-        let stops = ending-stopped k c lag _ (sym (ap (λ (r : Run Verdict). r .answer) run) ∙ e) in
-        again c lag (read .0) (rw run (store-full copies p c s k (read .1 .ready) (read .1 .sound) stops))
-
-    run-full : (t : Bool) → unopened copies p s ≡ t → OpenFull copies p s k
-    run-full true q = full-first q
-    run-full false q = full-again q (chipVerdict copies p s) refl
-
-  pub open-full : openOf copies p s .says .code ≡ 8 → OpenFull copies p s (openOf copies p s .says .place)
-  open-full =
-      rw (open-is copies p s)
-      (λ e. run-full _ (code-eight (openRun copies p s .answer) (length (openRun copies p s .log)) (openRun copies p s .tried) e) (unopened copies p s) refl)
+      always : OpeningFull copies p k s → firstOpening copies p s .answer ≡ Stopped (NoSpare k)
+      always f =
+          let pointer = listed (takeFrom k 0 (wholeArea p) s .answer .addresses) in
+          let same = zero-add k in
+          let stops =
+          take-always k (slots copies) 0 (wholeArea p) s p pointer (f .inside) (ready .paired) (f .before) (λ j l. ap pointer (zero-add j)) (between-none p pointer) (rw same (f .full))
+          ∙ ap (λ (j : ℕ). Stopped (NoSpare j)) same in
+          ap (λ (r : Run Work). r .answer) (opening-ends copies p s stops) ∙ stops

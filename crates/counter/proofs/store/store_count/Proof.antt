@@ -1,6 +1,6 @@
 -- `store::store_count` meets its contract. Whenever the loop's test is reached, the store comes to what is left of it, behind
 -- the writes asked and the spares tried so far, few for each slot. The measure is the number of slots left.
-use Prim.Native.Nat.{_+_, _-_, _*_, _%_, _≤_}
+use Prim.Native.Nat.{_+_, _-_, _*_, _%_, _≤_, _<_}
 use mathlib.Core.Path.{_≡_, refl, sym, ap, _∙_}
 use mathlib.Core.Bool.{true, false}
 use mathlib.Core.List.{[]}
@@ -72,7 +72,10 @@ unfolding slotCode
 code-here c = c .code-of .ensures ∙ ap codeOf (c .before .nibble-of .ensures ∙ ap (λ w. nibbleOf w (c .before .before .before .before .before .loop .slot % 8)) (c .before .before .before .before .before .before .gray-of .ensures))
 
 store-slot-requires : tie.Need-store-slot-requires Inv-loop μ-loop
-store-slot-requires c κs = let inv = c .before .before .before .before .before .loop .inv in (inv .good, inv .well, c .before .before .before .before .loop-test .taken)
+store-slot-requires c κs =
+    let inv = c .before .before .before .before .before .loop .inv in
+    let inside = c .before .before .before .before .loop-test .taken in
+    (inv .good, inv .well, omega arith)
 
 -- what the slot asked and tried
 few-here : (c : tie.After-store-slot Inv-loop μ-loop) → (c .store-slot .result .writes ≤ 4099) × (c .store-slot .result .tried ≤ 4096)
@@ -108,7 +111,8 @@ loop-again c =
     let behind = c .before .before in
     let call = behind .before .before .before .before .before in
     let loop = call .before .before .before .before .before .before .loop in
-    let inside = call .before .before .before .before .before .loop-test .taken in
+    let test = call .before .before .before .before .before .loop-test .taken in
+    let inside : loop .slot < 16 = omega arith in
     let few = few-here call in
     let said = sum behind in
     let going = sym (said .0) in
@@ -154,7 +158,7 @@ returns-2 c =
     let loop = call .before .before .before .before .before .before .loop in
     let halt : stopped (call .store-slot .result .work) ≡ true = ap stopped (sym (sum behind .0)) ∙ sym (c .before .is-stopped .ensures) ∙ c .if1 .taken in
     behind .behind .ensures _
-    ∙ ap (plus (loop .done .writes) (loop .done .tried)) (sym (store-left-stopped 2 _ _ _ _ (call .before .before .before .before .before .loop-test .taken) (code-here (call .before)) (call .store-slot .ensures) halt))
+    ∙ ap (plus (loop .done .writes) (loop .done .tried)) (sym (store-left-stopped 2 _ _ _ _ (let inside = call .before .before .before .before .before .loop-test .taken in omega arith) (code-here (call .before)) (call .store-slot .ensures) halt))
     ∙ sym (loop .inv .rest)
 
 pub store-count-spec : {M : Type 1} → statement M
