@@ -26,11 +26,12 @@ use Rattle.cells.specs.declared.row.Found.the-variants.{At, Nowhere}
 use Rattle.cells.specs.Chip.{Chip, Paired}
 use Rattle.cells.specs.Run.{Run, Seen, seen, view, plus, _giving_}
 use Rattle.cells.specs.Put.{putAt}
-use Rattle.cells.specs.Row.{tryAt, putRow}
+use Rattle.cells.specs.Row.{putRow}
 use Rattle.cells.proofs.Views.{said-answer}
 use Rattle.cells.proofs.Writes.{kept-paired}
 use Rattle.cells.proofs.Logs.{within-kept}
 use Rattle.cells.proofs.Puts.{put-within, put-few, put-laws}
+use Rattle.cells.proofs.Walks.{try-put}
 use Rattle.cells.proofs.Rows.{row-tried, row-cost}
 use Rattle.counter.specs.declared.map.Kind.{Kind}
 use Rattle.counter.specs.declared.map.Kind.the-variants.{High, Low}
@@ -146,8 +147,8 @@ module _ (n : ℕ) where
     passed m = go (try-laws k left (codeOf 0) (first .after) (kept-paired (put-laws (nextOf (kindOf k) g) (codeOf 0) s paired .kept) paired) .trying)
       where
         go : Trying k left (codeOf 0) (first .after) → view (untried (takeFrom (suc m) k g s)) ≡ ahead [] (length (first .log)) (view (untried (takeFrom (suc m) k left (first .after))))
-        go (missing t) = unfold takeFrom tryAt in rw (spares-passed k g (codeOf 0) s some failed, t .nowhere, append-assoc, length-append (first .log) _)
-        go (landing t) = unfold takeFrom tryAt in rw (spares-passed k g (codeOf 0) s some failed, t .here, narrow-behind (kindOf k) g _ (t .place) (t .free), append-assoc, length-append (first .log) _)
+        go (missing t) = unfold takeFrom in rw (spares-passed k g (codeOf 0) s some failed, try-put, t .nowhere, append-assoc, length-append (first .log) _)
+        go (landing t) = unfold takeFrom in rw (spares-passed k g (codeOf 0) s some failed, try-put, t .here, narrow-behind (kindOf k) g _ (t .place) (t .free), append-assoc, length-append (first .log) _)
 
   module _ (k : ℕ) (g : Gap) (s : Chip) (inside : k < n) {at b : ℕ} (byte : b ≡ codeOf 0) (some : 0 < sparesOf (kindOf k) g) (here : at ≡ nextOf (kindOf k) g) {v : Seen Bool} (e : v ≡ view (putAt at b s)) where
     put-said : v ≡ view (putAt (nextOf (kindOf k) g) (codeOf 0) s)

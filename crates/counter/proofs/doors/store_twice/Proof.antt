@@ -1,16 +1,15 @@
 -- `doors::store_twice` meets its contract: what is stored first leaves the chip fit for the second store.
-use mathlib.Core.Path.{_≡_, sym, ap, _∙_}
+use mathlib.Core.Path.{_≡_, sym, _∙_}
 use mathlib.Core.Bool.{true, false}
 use borrow.Author.Needs.{needs}
 use native.Mathlib.Omega.{arith}
 use Rattle.cells.specs.Chip.{chip}
-use Rattle.cells.specs.Run.{plus}
 use Rattle.counter.specs.Slots.{two}
 use Rattle.counter.specs.Places.{fitted}
 use Rattle.counter.specs.Map.{mapIn, pointerOf, sound}
 use Rattle.counter.specs.Store.{store}
 use Rattle.counter.specs.Inside.{stopped}
-use Rattle.counter.proofs.Behind.{said-done, said-stopped}
+use Rattle.counter.proofs.Behind.{behind-done, said-stopped}
 use Rattle.counter.proofs.StoreViews.{store-settled}
 use Rattle.counter.proofs.StoreCosts.{store-few}
 use Rattle.counter.proofs.doors.store_twice.Statement.{statement}
@@ -71,9 +70,7 @@ returns-2 : tie.Need-returns-2
 returns-2 c =
     let second = c .before .before .before .before .before in
     let first = second .before .before .before .before .before .before .before .before .before .store-count in
-    c .behind .ensures _
-    ∙ ap (plus (first .result .writes) (first .result .tried)) (second .store-count2 .ensures)
-    ∙ sym (said-done (store two _ _ _) (store two _ _) (first .ensures) (done (second .before .before .before)))
+    c .behind .ensures _ ∙ behind-done (store two _ _ _) (store two _ _) (first .ensures) (done (second .before .before .before)) (second .store-count2 .ensures)
 
 pub store-twice-spec : {M : Type 1} → statement M
 store-twice-spec =

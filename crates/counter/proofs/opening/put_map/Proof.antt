@@ -1,13 +1,13 @@
 -- `opening::put_map` meets its contract: the pointers are one row of bytes, and the mark is another.
-use mathlib.Core.Path.{_≡_, sym, ap, _∙_}
+use mathlib.Core.Path.{_≡_, sym, _∙_}
 use borrow.Author.Needs.{needs}
 use native.Mathlib.Omega.{arith}
 use Rattle.cells.specs.Chip.{chip}
-use Rattle.cells.specs.Run.{seen, view, plus}
+use Rattle.cells.specs.Run.{seen, view}
 use Rattle.counter.specs.Opening.{putPointers, putMark}
 use Rattle.counter.proofs.Ready.{ready-placed}
 use Rattle.counter.proofs.Fitted.{fitted-ready, ready-fitted, ready-short}
-use Rattle.counter.proofs.Behind.{said-done, said-stopped}
+use Rattle.counter.proofs.Behind.{behind-done, said-stopped}
 use Rattle.counter.proofs.OpeningViews.{ready-same, mark-few, pointers-said, pointers-few}
 use Rattle.counter.proofs.opening.put_map.Statement.{statement}
 use Rattle.counter.proofs.opening.put_map.Tie as tie
@@ -80,9 +80,7 @@ returns-2 c =
     let mark = c .before .before .before .before .before in
     let put = mark .before .before .before .before .before in
     let done = sym (mark .before .before .before .before .is-stopped .ensures) ∙ mark .before .before .before .if1 .left in
-    c .behind .ensures _
-    ∙ ap (plus _ _) (mark .put-mark .ensures)
-    ∙ sym (said-done (putPointers _ 0 _ _) (putMark _) (pointers put) done)
+    c .behind .ensures _ ∙ behind-done (putPointers _ 0 _ _) (putMark _) (pointers put) done (mark .put-mark .ensures)
 
 pub put-map-spec : {M : Type 1} → statement M
 put-map-spec =

@@ -1,17 +1,16 @@
 -- `store::store_pair` meets its contract: the first slot leaves the chip fit for the second.
-use mathlib.Core.Path.{_≡_, sym, ap, _∙_}
+use mathlib.Core.Path.{_≡_, sym, _∙_}
 use mathlib.Core.Bool.{true, false}
 use borrow.Author.Needs.{needs}
 use native.Mathlib.Omega.{arith}
 use Rattle.cells.specs.Chip.{chip}
-use Rattle.cells.specs.Run.{plus}
 use Rattle.counter.specs.Slots.{two}
 use Rattle.counter.specs.Places.{fitted}
 use Rattle.counter.specs.Map.{mapIn, pointerOf, sound}
 use Rattle.counter.specs.Store.{storeSlot}
 use Rattle.counter.specs.Inside.{stopped}
 use Rattle.counter.proofs.Fitted.{fitted-ready}
-use Rattle.counter.proofs.Behind.{said-done, said-stopped}
+use Rattle.counter.proofs.Behind.{behind-done, said-stopped}
 use Rattle.counter.proofs.StoreViews.{slot-settled}
 use Rattle.counter.proofs.StoreCosts.{slot-few}
 use Rattle.counter.proofs.store.store_pair.Statement.{statement}
@@ -74,9 +73,7 @@ returns-2 : tie.Need-returns-2
 returns-2 c =
     let second = c .before .before .before .before .before in
     let first = second .before .before .before .before .before .before .before .before .before .store-slot in
-    c .behind .ensures _
-    ∙ ap (plus (first .result .writes) (first .result .tried)) (second .store-slot2 .ensures)
-    ∙ sym (said-done (storeSlot two _ _ _ _) (storeSlot two _ _ _) (first .ensures) (done (second .before .before .before)))
+    c .behind .ensures _ ∙ behind-done (storeSlot two _ _ _ _) (storeSlot two _ _ _) (first .ensures) (done (second .before .before .before)) (second .store-slot2 .ensures)
 
 pub store-pair-spec : {M : Type 1} → statement M
 store-pair-spec =
