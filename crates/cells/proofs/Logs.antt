@@ -1,7 +1,7 @@
 -- Laws of logs: what their writes keep, and how the lives fall by them.
 use Prim.Native.Nat.{ℕ, _+_, _-_, _≤_}
 use mathlib.Core.Path.{_≡_, refl, sym, ap, subst, _∙_}
-use mathlib.Core.Bool.{Bool, true, false}
+use mathlib.Core.Bool.{Bool, true, false, cond}
 use mathlib.Core.List.{List, [], _∷_, _++_}
 use native.Mathlib.Nat.{add-assoc, zero-add}
 use native.Mathlib.Decide.{ℕ-discrete, decLe}
@@ -9,7 +9,7 @@ use native.Mathlib.Omega.{arith}
 use borrow.Author.Tests.{le-leb, lt-leb}
 use lib.Dec.{leb}
 use lib.ListN.{length}
-use Rattle.cells.specs.Chip.{Chip, lifeAt, pick, writeAt, Kept}
+use Rattle.cells.specs.Chip.{Chip, lifeAt, writeAt, Kept}
 use Rattle.cells.specs.Run.{Write, write, Run, run, still, _then_, _giving_}
 use Rattle.cells.specs.Log.{writeAll, askedIn, askedOf, Every, Every.none, Every.more, Within}
 use Rattle.cells.proofs.Writes.{kept-same, kept-then, kept-wider, write-laws}
@@ -45,7 +45,7 @@ module _ {Place : ℕ → Type 0} where
 -- ## How many writes were asked of some cells
 
 -- a write counts as one at most
-one-most : (t u : Bool) → pick t (pick u 1 0) 0 ≤ 1
+one-most : (t u : Bool) → cond t (cond u 1 0) 0 ≤ 1
 one-most true true = omega arith
 one-most true false = omega arith
 one-most false u = omega arith
@@ -66,7 +66,7 @@ module _ (lo hi : ℕ) where
   unfolding askedIn
   asked-elsewhere w l n = go (decLe lo (w .at)) (decLe (w .at) hi)
     where
-      go : Dec (lo ≤ w .at) → Dec (w .at ≤ hi) → pick (leb lo (w .at)) (pick (leb (w .at) hi) 1 0) 0 + askedIn lo hi l ≡ askedIn lo hi l
+      go : Dec (lo ≤ w .at) → Dec (w .at ≤ hi) → cond (leb lo (w .at)) (cond (leb (w .at) hi) 1 0) 0 + askedIn lo hi l ≡ askedIn lo hi l
       go (yes p) (yes q) = absurd (n p q)
       go (yes p) (no q) = rw (le-leb lo (w .at) p, lt-leb (w .at) hi (omega arith), zero-add)
       go (no p) q = rw (lt-leb lo (w .at) (omega arith), zero-add)
@@ -134,7 +134,7 @@ module _ {A : Type 0} {Place : ℕ → Type 0} where
   within-wider f i = record { logged = i .logged; places = every-wider f (i .places) }
 
   -- either of two pieces
-  pub within-pick : (t : Bool) {s : Chip} {x y : Run A} → Within Place s x → Within Place s y → Within Place s (pick t x y)
+  pub within-pick : (t : Bool) {s : Chip} {x y : Run A} → Within Place s x → Within Place s y → Within Place s (cond t x y)
   within-pick true i j = i
   within-pick false i j = j
 

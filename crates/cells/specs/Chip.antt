@@ -1,7 +1,7 @@
 -- A chip as lent, and a write to one of its cells (document 01, "The chip as lent").
 use Prim.Native.Nat.{ℕ, _-_}
 use mathlib.Core.Path.{_≡_}
-use mathlib.Core.Bool.{Bool, true, false}
+use mathlib.Core.Bool.{cond}
 use mathlib.Core.List.{List}
 use lib.ListN.{getD, length, set}
 use lib.Dec.{ltb}
@@ -20,14 +20,9 @@ cellAt s a = getD (s .cells) a 0
 abbrev pub lifeAt : Chip → ℕ → ℕ
 lifeAt s a = getD (s .lives) a 0
 
--- the first where the test holds, else the second
-abbrev pub pick : {A : Type 0} → Bool → A → A → A
-pick true x y = x
-pick false x y = y
-
 -- a cell of life 1 or more stores the byte and loses one; a cell of life 0 changes nothing
 unfoldable pub writeAt : ℕ → ℕ → Chip → Chip
-writeAt a b s = pick (ltb 0 (lifeAt s a)) (chip (set (s .cells) a b) (set (s .lives) a (lifeAt s a - 1))) s
+writeAt a b s = cond (ltb 0 (lifeAt s a)) (chip (set (s .cells) a b) (set (s .lives) a (lifeAt s a - 1))) s
 
 -- there are as many lives as cells
 abbrev pub Paired : Chip → Type 0

@@ -1,9 +1,10 @@
 -- Logs: the writes that a piece of work asked for, in order, whether the cells took them or not.
 use Prim.Native.Nat.{ℕ, _+_}
 use mathlib.Core.Path.{_≡_}
+use mathlib.Core.Bool.{cond}
 use mathlib.Core.List.{List, [], _∷_}
 use lib.Dec.{leb}
-use Rattle.cells.specs.Chip.{Chip, pick, writeAt}
+use Rattle.cells.specs.Chip.{Chip, writeAt}
 use Rattle.cells.specs.Run.{Write, Run}
 
 -- the chip after the writes of a log, one after another
@@ -14,7 +15,7 @@ writeAll (w ∷ ws) s = writeAll ws (writeAt (w .at) (w .byte) s)
 -- how many writes of a log were asked of cells from lo up to hi, both included
 unfoldable pub askedIn : ℕ → ℕ → List Write → ℕ
 askedIn lo hi [] = 0
-askedIn lo hi (w ∷ ws) = pick (leb lo (w .at)) (pick (leb (w .at) hi) 1 0) 0 + askedIn lo hi ws
+askedIn lo hi (w ∷ ws) = cond (leb lo (w .at)) (cond (leb (w .at) hi) 1 0) 0 + askedIn lo hi ws
 
 -- how many were asked of one cell
 abbrev pub askedOf : ℕ → List Write → ℕ

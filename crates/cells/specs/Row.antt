@@ -1,12 +1,12 @@
 -- Rows of cells (document 01, "The map" and "Storing, opening, stepping").
 use Prim.Native.Nat.{ℕ, zero, suc, _+_, _-_, _≤_, _<_}
-use mathlib.Core.Bool.{Bool}
+use mathlib.Core.Bool.{Bool, cond}
 use mathlib.Core.List.{List, [], _∷_}
 use Rattle.cells.specs.declared.row.Way.{Way}
 use Rattle.cells.specs.declared.row.Way.the-variants.{Up, Down}
 use Rattle.cells.specs.declared.row.Found.{Found}
 use Rattle.cells.specs.declared.row.Found.the-variants.{At, Nowhere}
-use Rattle.cells.specs.Chip.{Chip, pick}
+use Rattle.cells.specs.Chip.{Chip}
 use Rattle.cells.specs.Run.{Write, write, Run, run, still, _then_, _giving_}
 use Rattle.cells.specs.Put.{putAt}
 
@@ -40,7 +40,7 @@ walk zero way a b s = still Nowhere s
 walk (suc n) way a b s =
     let r = tryAt a b s in
     let rest = r then walk n way (next way a) b (r .after) in
-    pick (r .answer) (r giving At a) rest
+    cond (r .answer) (r giving At a) rest
 
 -- bytes put at neighbouring cells from a on, up to the first that does not hold: where that was
 unfoldable pub putRow : List ℕ → ℕ → Chip → Run Found
@@ -48,7 +48,7 @@ putRow [] a s = still Nowhere s
 putRow (b ∷ bs) a s =
     let r = putAt a b s in
     let rest = r then putRow bs (a + 1) (r .after) in
-    pick (r .answer) rest (r giving At a)
+    cond (r .answer) rest (r giving At a)
 
 -- the byte asked of each of the n cells from a on
 unfoldable pub asks : ℕ → Way → ℕ → ℕ → List Write

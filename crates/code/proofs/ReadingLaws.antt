@@ -12,7 +12,7 @@
 --   nibble-kept         the code of a word's nibble is not lost
 --   clean-code          a byte whose entry is a nibble is that nibble's code
 use mathlib.Core.Path.{_≡_, refl, sym, ap, _∙_}
-use mathlib.Core.Bool.{Bool, true, false}
+use mathlib.Core.Bool.{Bool, true, false, true≢false}
 use mathlib.Core.List.{List, [], _∷_}
 use Prim.Native.Nat.{ℕ, _+_, _<_}
 use native.Mathlib.Omega.{arith}
@@ -113,8 +113,8 @@ nibble-kept w k = ap isLost (code-clean (nibbleOf w k) (nibble-small w k))
 -- a lost reading gives the nibble 0
 pub lost-zero : (r : Reading) → isLost r ≡ true → nibbleRead r ≡ 0
 unfolding isLost nibbleRead
-lost-zero (Clean d) h = let z : _≡_ {A = ℕ} 0 1 = cc in absurd (omega arith)
-lost-zero (Mended d) h = let z : _≡_ {A = ℕ} 0 1 = cc in absurd (omega arith)
+lost-zero (Clean d) h = absurd (true≢false cc)
+lost-zero (Mended d) h = absurd (true≢false cc)
 lost-zero Lost h = refl
 
 -- a byte whose entry is a nibble is that nibble's code

@@ -1,6 +1,6 @@
 -- The table of readings: an entry is one number for what a byte reads as (document 01, "Nibbles, bytes and Gray words").
 use Prim.Native.Nat.{ℕ, _+_, _-_, _*_, _/_}
-use mathlib.Core.Bool.{Bool, true, false}
+use mathlib.Core.Bool.{Bool, cond}
 use mathlib.Core.List.{List, [], _∷_}
 use lib.Bits.{bitXor}
 use lib.Count.{trailingZeros}
@@ -37,14 +37,10 @@ entryOf b = entryFrom b (near 0 b) (near 1 b)
 unfoldable pub entries : List ℕ
 entries = tabulate entryOf 0 256
 
-abbrev pub pick : Bool → Reading → Reading → Reading
-pick true a b = a
-pick false a b = b
-
 -- the reading that an entry stands for
 abbrev pub readingAt : ℕ → Reading
 readingAt e =
-    pick (ltb e mendedEntry) (Clean e) (pick (ltb e lostEntry) (Mended ((e - mendedEntry) / 8)) Lost)
+    cond (ltb e mendedEntry) (Clean e) (cond (ltb e lostEntry) (Mended ((e - mendedEntry) / 8)) Lost)
 
 -- whether an entry stands for a byte one bit from two codes
 abbrev pub twofoldAt : ℕ → Bool

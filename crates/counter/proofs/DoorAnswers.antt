@@ -20,6 +20,7 @@ use Rattle.counter.specs.declared.verdict.Refusal.{Refusal}
 use Rattle.counter.specs.declared.verdict.Refusal.the-variants.{BadLength, BadPlaces, NoMark, UnsoundMap, BadCopy, TwoCodes, LostNibble, Apart, LastCount, NoSpare, MapByte}
 use Rattle.counter.specs.declared.verdict.Verdict.{Verdict}
 use Rattle.counter.specs.declared.verdict.Verdict.the-variants.{Good, Refused}
+use Rattle.counter.specs.Layout.{Layout}
 use Rattle.counter.specs.Verdict.{answer, refusalOf, answerOf, outcomeOf}
 use Rattle.counter.specs.Reading.{verdictOf}
 use Rattle.counter.specs.Doors.{openRun, stepRun, openOf, stepOf, readOf}
@@ -89,16 +90,16 @@ module _ (r : Run Verdict) where
 
 -- ## The doors
 
-module _ (copies : ℕ) (p : Places) where
-  pub read-good : {c : ℕ} {lag : ℤ} (cells : List ℕ) → verdictOf copies p cells ≡ Good c lag → readOf copies p cells ≡ answer 0 c lag 0 0 0
+module _ (layout : Layout) (p : Places) where
+  pub read-good : {c : ℕ} {lag : ℤ} (cells : List ℕ) → verdictOf layout p cells ≡ Good c lag → readOf layout p cells ≡ answer 0 c lag 0 0 0
   unfolding readOf answerOf
   read-good cells e = rw e
 
   module _ (s : Chip) where
-    pub open-is : openOf copies p s ≡ outcomeOf (openRun copies p s)
+    pub open-is : openOf layout p s ≡ outcomeOf (openRun layout p s)
     unfolding openOf
     open-is = refl
 
-    pub step-is : stepOf copies p s ≡ outcomeOf (stepRun copies p s)
+    pub step-is : stepOf layout p s ≡ outcomeOf (stepRun layout p s)
     unfolding stepOf
     step-is = refl

@@ -24,6 +24,7 @@ use Rattle.counter.specs.declared.verdict.Verdict.the-variants.{Good, Re
 use Rattle.counter.specs.declared.verdict.Refusal.{Refusal}
 use Rattle.counter.specs.declared.verdict.Refusal.the-variants.{BadLength, LastCount}
 use Rattle.counter.specs.declared.standing.Standing.the-variants.{Unfit, Unmarked, Marked}
+use Rattle.counter.specs.Layout.{Layout}
 use Rattle.counter.specs.Places.{livesGood, fitted}
 use Rattle.counter.specs.Map.{mapIn, marked, pointerOf, sound}
 use Rattle.counter.specs.Verdict.{outcome, outcomeOf, refusalOf, answerOf, ending, _endingIn_}
@@ -48,21 +49,21 @@ pub outcome-refused : {r : Run Verdict} {s : Chip} {why : Refusal} → r ≡ sti
 unfolding answerOf
 outcome-refused e = ap outcomeOf (sym e)
 
-module _ (copies : ℕ) (p : Places) (s : Chip) where
+module _ (layout : Layout) (p : Places) (s : Chip) where
   -- a chip is opened for the first time where it is fit and has no mark
-  pub unopened-ready : unopened copies p s ≡ true → Ready copies p s
+  pub unopened-ready : unopened layout p s ≡ true → Ready layout p s
   unfolding unopened
-  unopened-ready e = fitted-ready (and-true (fitted copies p s) _ e .0)
+  unopened-ready e = fitted-ready (and-true (fitted layout p s) _ e .0)
 
-  pub ready-unopened : Ready copies p s → marked (mapIn copies p (s .cells)) ≡ false → unopened copies p s ≡ true
+  pub ready-unopened : Ready layout p s → marked (mapIn layout p (s .cells)) ≡ false → unopened layout p s ≡ true
   unfolding unopened
   ready-unopened ready e = true-and _ _ (ready-fitted ready) (ap not e)
 
-  pub open-first : unopened copies p s ≡ true → openRun copies p s ≡ beginning copies p s
+  pub open-first : unopened layout p s ≡ true → openRun layout p s ≡ beginning layout p s
   unfolding openRun
   open-first e = rw e
 
-  pub open-again : unopened copies p s ≡ false → openRun copies p s ≡ reopening copies p s
+  pub open-again : unopened layout p s ≡ false → openRun layout p s ≡ reopening layout p s
   unfolding openRun
   open-again e = rw e
 
@@ -72,67 +73,67 @@ module _ (copies : ℕ) (p : Places) (s : Chip) where
     lives = eq-eqb _ _ paired
 
     -- a chip lent with its lives reads as its cells do
-    pub chip-verdict : chipVerdict copies p s ≡ verdictOf copies p (s .cells)
+    pub chip-verdict : chipVerdict layout p s ≡ verdictOf layout p (s .cells)
     unfolding chipVerdict
     chip-verdict = rw lives
 
     -- behind a mark, as what they are examined to be
-    pub chip-examined : standingOf copies p (s .cells) ≡ Marked → chipVerdict copies p s ≡ examine copies p (s .cells)
+    pub chip-examined : standingOf layout p (s .cells) ≡ Marked → chipVerdict layout p s ≡ examine layout p (s .cells)
     unfolding verdictOf
-    chip-examined e = chip-verdict ∙ guard-marked copies p (s .cells) _ e
+    chip-examined e = chip-verdict ∙ guard-marked layout p (s .cells) _ e
 
     -- and is opened as they stand
-    pub chip-fitted : standingOf copies p (s .cells) ≡ Unmarked → fitted copies p s ≡ true
+    pub chip-fitted : standingOf layout p (s .cells) ≡ Unmarked → fitted layout p s ≡ true
     unfolding fitted
-    chip-fitted e = let facts = stands-unmarked copies p (s .cells) e in rw (lives, facts .0, facts .1)
+    chip-fitted e = let facts = stands-unmarked layout p (s .cells) e in rw (lives, facts .0, facts .1)
 
-    pub open-unmarked : standingOf copies p (s .cells) ≡ Unmarked → openRun copies p s ≡ beginning copies p s
-    open-unmarked e = open-first (ready-unopened (fitted-ready (chip-fitted e)) (stands-unmarked copies p (s .cells) e .2))
+    pub open-unmarked : standingOf layout p (s .cells) ≡ Unmarked → openRun layout p s ≡ beginning layout p s
+    open-unmarked e = open-first (ready-unopened (fitted-ready (chip-fitted e)) (stands-unmarked layout p (s .cells) e .2))
 
-    pub open-marked : standingOf copies p (s .cells) ≡ Marked → openRun copies p s ≡ reopening copies p s
+    pub open-marked : standingOf layout p (s .cells) ≡ Marked → openRun layout p s ≡ reopening layout p s
     unfolding openRun unopened fitted
-    open-marked e = let facts = stands-marked copies p (s .cells) e in rw (lives, facts .0, facts .1, facts .2)
+    open-marked e = let facts = stands-marked layout p (s .cells) e in rw (lives, facts .0, facts .1, facts .2)
 
-    pub open-unfit : {why : Refusal} → standingOf copies p (s .cells) ≡ Unfit why → openRun copies p s ≡ still (Refused why) s
+    pub open-unfit : {why : Refusal} → standingOf layout p (s .cells) ≡ Unfit why → openRun layout p s ≡ still (Refused why) s
     unfolding openRun unopened fitted verdictOf
-    open-unfit e = rw (lives, stands-unfit copies p (s .cells) e, chip-verdict ∙ guard-unfit copies p (s .cells) _ e)
+    open-unfit e = rw (lives, stands-unfit layout p (s .cells) e, chip-verdict ∙ guard-unfit layout p (s .cells) _ e)
 
   module _ (unpaired : length (s .lives) ≡ length (s .cells) → ⊥) where
     lifeless : livesGood s ≡ false
     unfolding livesGood
     lifeless = ne-eqb _ _ unpaired
 
-    chip-unpaired : chipVerdict copies p s ≡ Refused BadLength
+    chip-unpaired : chipVerdict layout p s ≡ Refused BadLength
     unfolding chipVerdict
     chip-unpaired = rw lifeless
 
-    pub open-unpaired : openRun copies p s ≡ still (Refused BadLength) s
+    pub open-unpaired : openRun layout p s ≡ still (Refused BadLength) s
     unfolding openRun unopened fitted
     open-unpaired = rw (lifeless, chip-unpaired)
 
-    pub step-unpaired : stepRun copies p s ≡ still (Refused BadLength) s
+    pub step-unpaired : stepRun layout p s ≡ still (Refused BadLength) s
     unfolding stepRun
     step-unpaired = rw chip-unpaired
 
-  module _ (why : Refusal) (e : chipVerdict copies p s ≡ Refused why) where
-    pub reopening-refused : reopening copies p s ≡ still (Refused why) s
+  module _ (why : Refusal) (e : chipVerdict layout p s ≡ Refused why) where
+    pub reopening-refused : reopening layout p s ≡ still (Refused why) s
     reopening-refused = rw e
 
-    pub step-refused : stepRun copies p s ≡ still (Refused why) s
+    pub step-refused : stepRun layout p s ≡ still (Refused why) s
     unfolding stepRun
     step-refused = rw e
 
-  pub good-settled : {c : ℕ} {lag : ℤ} → chipVerdict copies p s ≡ Good c lag → (fitted copies p s ≡ true) × (sound copies p (pointerOf (mapIn copies p (s .cells))) ≡ true)
-  good-settled e = let good = verdict-good copies p s e .1 in (ready-fitted (good .ready), sound-test copies p _ (good .sound))
+  pub good-settled : {c : ℕ} {lag : ℤ} → chipVerdict layout p s ≡ Good c lag → (fitted layout p s ≡ true) × (sound layout p (pointerOf (mapIn layout p (s .cells))) ≡ true)
+  good-settled e = let good = verdict-good layout p s e .1 in (ready-fitted (good .ready), sound-test layout p _ (good .sound))
 
-  module _ (c : ℕ) (lag : ℤ) (e : chipVerdict copies p s ≡ Good c lag) where
-    pub reopening-good : reopening copies p s ≡ store copies p c s endingIn Good c lag
+  module _ (c : ℕ) (lag : ℤ) (e : chipVerdict layout p s ≡ Good c lag) where
+    pub reopening-good : reopening layout p s ≡ store layout p c s endingIn Good c lag
     reopening-good = rw e
 
-    pub step-last : c ≡ lastCount → stepRun copies p s ≡ still (Refused LastCount) s
+    pub step-last : c ≡ lastCount → stepRun layout p s ≡ still (Refused LastCount) s
     unfolding stepRun
     step-last h = rw (e, eq-eqb _ _ h)
 
-    pub step-on : (c ≡ lastCount → ⊥) → stepRun copies p s ≡ stepping copies p c lag s
+    pub step-on : (c ≡ lastCount → ⊥) → stepRun layout p s ≡ stepping layout p c lag s
     unfolding stepRun
     step-on h = rw (e, ne-eqb _ _ h)

@@ -16,7 +16,7 @@ use Rattle.cells.proofs.Logs.{within-kept}
 use Rattle.counter.specs.declared.places.Places.{Places}
 use Rattle.counter.specs.declared.verdict.Work.the-variants.{Done}
 use Rattle.counter.specs.declared.verdict.Verdict.the-variants.{Good}
-use Rattle.counter.specs.Slots.{slots}
+use Rattle.counter.specs.Layout.{Layout, slots}
 use Rattle.counter.specs.Map.{mapIn, marked, sound}
 use Rattle.counter.specs.Reading.{examine, verdictOf}
 use Rattle.counter.specs.Store.{slotCode, storeFrom, store}
@@ -30,18 +30,18 @@ use Rattle.counter.proofs.Stores.{store-laws}
 use Rattle.counter.proofs.Openings.{opening-laws, zero-code}
 use Rattle.counter.proofs.ReadBack.{weigh-exact}
 
-pub record Exact (copies : ℕ) (p : Places) (c : ℕ) (s : Chip) : Type 0 where
-  pub ready : Ready copies p s
-  pub marks : marked (mapIn copies p (s .cells)) ≡ true
-  pub sound : Sound (slots copies) p (pointers copies p s)
-  pub held : (k : ℕ) → k < slots copies → dataOf copies p s k ≡ slotCode c k
+pub record Exact (layout : Layout) (p : Places) (c : ℕ) (s : Chip) : Type 0 where
+  pub ready : Ready layout p s
+  pub marks : marked (mapIn layout p (s .cells)) ≡ true
+  pub sound : Sound (slots layout) p (pointers layout p s)
+  pub held : (k : ℕ) → k < slots layout → dataOf layout p s k ≡ slotCode c k
 
-module _ {copies : ℕ} {p : Places} {s : Chip} (ready : Ready copies p s) where
+module _ {layout : Layout} {p : Places} {s : Chip} (ready : Ready layout p s) where
   pub exact-stored :
-      (c : ℕ) → marked (mapIn copies p (s .cells)) ≡ true → Sound (slots copies) p (pointers copies p s)
-      → store copies p c s .answer ≡ Done → Exact copies p c (store copies p c s .after)
+      (c : ℕ) → marked (mapIn layout p (s .cells)) ≡ true → Sound (slots layout) p (pointers layout p s)
+      → store layout p c s .answer ≡ Done → Exact layout p c (store layout p c s .after)
   exact-stored c marks sound e =
-      let laws = store-laws copies p c s ready sound in
+      let laws = store-laws layout p c s ready sound in
       let stored = laws .stored e in
       record {
         ready = ready-kept ready (within-kept (laws .within));
@@ -50,7 +50,7 @@ module _ {copies : ℕ} {p : Places} {s : Chip} (ready : Ready copies p s) where
         held = λ k l. stored .held k (omega arith) (omega arith);
       }
 
-  pub exact-opened : firstOpening copies p s .answer ≡ Done → Exact copies p 0 (firstOpening copies p s .after)
+  pub exact-opened : firstOpening layout p s .answer ≡ Done → Exact layout p 0 (firstOpening layout p s .after)
   exact-opened e =
       let laws = opening-laws ready in
       let opened = laws .opened e in
@@ -61,22 +61,22 @@ module _ {copies : ℕ} {p : Places} {s : Chip} (ready : Ready copies p s) where
         held = λ k l. opened .held k l ∙ sym (zero-code k);
       }
 
-module _ {copies : ℕ} {p : Places} {c : ℕ} {s : Chip} (exact : Exact copies p c s) where
-  pub exact-reads : 1 ≤ copies → c < 2 ^ 32 → verdictOf copies p (s .cells) ≡ Good c (pos 0)
+module _ {layout : Layout} {p : Places} {c : ℕ} {s : Chip} (exact : Exact layout p c s) where
+  pub exact-reads : 1 ≤ layout .copies → c < 2 ^ 32 → verdictOf layout p (s .cells) ≡ Good c (pos 0)
   unfolding verdictOf examine
   exact-reads one small =
-      rw (exact .ready .long, exact .ready .good, exact .marks, sound-test copies p (pointers copies p s) (exact .sound))
-      (weigh-exact copies {byte = dataOf copies p s} small (exact .held) one)
+      rw (exact .ready .long, exact .ready .good, exact .marks, sound-test layout p (pointers layout p s) (exact .sound))
+      (weigh-exact layout {byte = dataOf layout p s} small (exact .held) one)
 
-  pub exact-verdict : 1 ≤ copies → c < 2 ^ 32 → chipVerdict copies p s ≡ Good c (pos 0)
+  pub exact-verdict : 1 ≤ layout .copies → c < 2 ^ 32 → chipVerdict layout p s ≡ Good c (pos 0)
   unfolding chipVerdict livesGood
   exact-verdict one small = rw (eq-eqb _ _ (exact .ready .paired)) (exact-reads one small)
 
-  still-from : (n k : ℕ) → k + n ≤ slots copies → storeFrom n k copies p c s ≡ still Done s
+  still-from : (n k : ℕ) → k + n ≤ slots layout → storeFrom n k layout p c s ≡ still Done s
   unfolding storeFrom
   still-from zero k l = refl
-  still-from (suc n) k l = rw (slot-there copies p k (slotCode c k) s (exact .held k (omega arith)), still-from n (k + 1) (omega arith))
+  still-from (suc n) k l = rw (slot-there layout p k (slotCode c k) s (exact .held k (omega arith)), still-from n (k + 1) (omega arith))
 
-  pub exact-still : store copies p c s ≡ still Done s
+  pub exact-still : store layout p c s ≡ still Done s
   unfolding store
-  exact-still = still-from (slots copies) 0 (omega arith)
+  exact-still = still-from (slots layout) 0 (omega arith)

@@ -16,7 +16,7 @@
 --   gap-more                  the gap of one slot more
 use Prim.Native.Nat.{ℕ, zero, suc, _+_, _-_, _≤_, _<_, min, max}
 use mathlib.Core.Path.{_≡_, refl, sym, ap, _∙_}
-use mathlib.Core.Bool.{true}
+use mathlib.Core.Bool.{true, _&&_, true≢false}
 use native.Mathlib.Decide.{ℕ-discrete}
 use native.Mathlib.Omega.{arith}
 use lib.Dec.{leb}
@@ -26,12 +26,13 @@ use Rattle.counter.specs.declared.map.Kind.{Kind}
 use Rattle.counter.specs.declared.map.Kind.the-variants.{High, Low}
 use Rattle.counter.specs.declared.places.Places.{Places}
 use Rattle.counter.specs.declared.spares.Gap.{Gap}
-use Rattle.counter.specs.Slots.{slots, kindOf}
+use Rattle.counter.specs.Slots.{kindOf}
 use Rattle.counter.specs.Map.{inArea}
 use Rattle.counter.specs.Spares.{gap, wholeArea, narrow, gapTo, gapOf, mayTry, wayOf, nextOf, sparesOf}
 use Rattle.counter.proofs.RangeTests.{and-true, true-and}
 use Rattle.counter.proofs.SoundPointers.{Inside, Sound}
 use native.Mathlib.Numerals.{add-one}
+use Rattle.counter.specs.Layout.{Layout, slots}
 
 -- above every High pointer and the least such from S on; at or below every Low pointer and the greatest such up to E + 1
 pub record Between (n : ℕ) (p : Places) (pointer : ℕ → ℕ) (g : Gap) : Type 0 where
@@ -77,7 +78,7 @@ module _ {n : ℕ} {p : Places} {pointer : ℕ → ℕ} {g : Gap} (b : Between n
         start = let h = b .start in omega arith;
         end = b .end;
         above = last (λ k. kindOf k ≡ High → pointer k < max (g .high) (a + 1)) n (λ k l e. let h = b .above k l e in omega arith) (λ e. omega arith);
-        below = last (λ k. kindOf k ≡ Low → g .low ≤ pointer k) n (b .below) (λ e. let z : _≡_ {A = ℕ} 0 1 = cc in absurd (omega arith));
+        below = last (λ k. kindOf k ≡ Low → g .low ≤ pointer k) n (b .below) (λ e. absurd (true≢false cc));
         least = λ c l h. let x = b .least c l (λ k m e. h k (omega arith) e) in let y = h n (omega arith) kind in omega arith;
         greatest = λ c l h. b .greatest c l (λ k m e. h k (omega arith) e);
       }
@@ -87,7 +88,7 @@ module _ {n : ℕ} {p : Places} {pointer : ℕ → ℕ} {g : Gap} (b : Between n
       record {
         start = b .start;
         end = let h = b .end in omega arith;
-        above = last (λ k. kindOf k ≡ High → pointer k < g .high) n (b .above) (λ e. let z : _≡_ {A = ℕ} 0 1 = cc in absurd (omega arith));
+        above = last (λ k. kindOf k ≡ High → pointer k < g .high) n (b .above) (λ e. absurd (true≢false cc));
         below = last (λ k. kindOf k ≡ Low → min (g .low) a ≤ pointer k) n (λ k l e. let h = b .below k l e in omega arith) (λ e. omega arith);
         least = λ c l h. b .least c l (λ k m e. h k (omega arith) e);
         greatest = λ c l h. let x = b .greatest c l (λ k m e. h k (omega arith) e) in let y = h n (omega arith) kind in omega arith;
@@ -105,9 +106,9 @@ unfolding gapTo
 between-gap zero p pointer = between-none p pointer
 between-gap (suc n) p pointer = between-more (between-gap n p pointer) (pointer n) refl
 
-pub between-map : (copies : ℕ) (p : Places) (pointer : ℕ → ℕ) → Between (slots copies) p pointer (gapOf copies p pointer)
+pub between-map : (layout : Layout) (p : Places) (pointer : ℕ → ℕ) → Between (slots layout) p pointer (gapOf layout p pointer)
 unfolding gapOf
-between-map copies p pointer = between-gap (slots copies) p pointer
+between-map layout p pointer = between-gap (slots layout) p pointer
 
 -- sound pointers leave a gap that is none or more cells of the area
 pub between-ordered :
@@ -162,7 +163,7 @@ pub free-may :
 unfolding OnFrom mayTry
 free-may High b f =
     let i = free-spare b f .inside in
-    (f .from, true-and _ _ (true-and _ _ (le-leb _ _ (i .from)) (le-leb _ _ (i .to))) (true-and _ _ (le-leb _ _ (f .reach refl)) (lt-ltb _ _ (f .to))))
+    (f .from, true-and _ _ (true-and _ _ (true-and _ _ (le-leb _ _ (i .from)) (le-leb _ _ (i .to))) (le-leb _ _ (f .reach refl))) (lt-ltb _ _ (f .to)))
 free-may Low b f =
     let i = free-spare b f .inside in
     (f .to, true-and _ _ (true-and _ _ (le-leb _ _ (i .from)) (le-leb _ _ (i .to))) (le-leb _ _ (f .from)))
@@ -170,16 +171,16 @@ free-may Low b f =
 pub may-free : (kind : Kind) (p : Places) (g : Gap) (a : ℕ) → OnFrom kind g a → mayTry p kind g a ≡ true → Free kind g a
 unfolding OnFrom mayTry
 may-free High p g a on may =
-    let rest = and-true (leb a 255) _ (and-true (inArea p a) _ may .1) in
-    record { from = on; to = ltb-true _ _ (rest .1); reach = λ e. leb-true _ _ (rest .0) }
+    let both = and-true (inArea p a && leb a 255) _ may in
+    record { from = on; to = ltb-true _ _ (both .1); reach = λ e. leb-true _ _ (and-true (inArea p a) _ (both .0) .1) }
 may-free Low p g a on may =
-    record { from = leb-true _ _ (and-true (inArea p a) _ may .1); to = on; reach = λ e. let z : _≡_ {A = ℕ} 0 1 = cc in absurd (omega arith) }
+    record { from = leb-true _ _ (and-true (inArea p a) _ may .1); to = on; reach = λ e. absurd (true≢false cc) }
 
 -- a walk over the spares of a kind goes over the free cells, and over all of them
 pub walked-free : (kind : Kind) (g : Gap) (j : ℕ) → j < sparesOf kind g → Free kind g (nth (wayOf kind) (nextOf kind g) j)
 unfolding sparesOf wayOf nextOf
 walked-free High g j h = record { from = omega arith; to = omega arith; reach = λ e. omega arith }
-walked-free Low g j h = record { from = omega arith; to = omega arith; reach = λ e. let z : _≡_ {A = ℕ} 0 1 = cc in absurd (omega arith) }
+walked-free Low g j h = record { from = omega arith; to = omega arith; reach = λ e. absurd (true≢false cc) }
 
 pub free-walked : (kind : Kind) (g : Gap) (a : ℕ) → Free kind g a → (j : ℕ) × (j < sparesOf kind g) × (nth (wayOf kind) (nextOf kind g) j ≡ a)
 unfolding sparesOf wayOf nextOf
@@ -208,9 +209,9 @@ module _ {n k a : ℕ} {p : Places} {f : ℕ → ℕ} {g : Gap} (h : ℕ → ℕ
         start = omega arith;
         end = b .end;
         above = λ j m e. above j m e (ℕ-discrete j k);
-        below = λ j m e. rw (others j m (λ q. let z : _≡_ {A = ℕ} 0 1 = cc in omega arith)) (b .below j m e);
+        below = λ j m e. rw (others j m (λ q. true≢false cc)) (b .below j m e);
         least = λ c m bound. let x = bound k l kind in omega arith;
-        greatest = λ c m bound. b .greatest c m (λ j o e. rw (← others j o (λ q. let z : _≡_ {A = ℕ} 0 1 = cc in omega arith)) (bound j o e));
+        greatest = λ c m bound. b .greatest c m (λ j o e. rw (← others j o (λ q. true≢false cc)) (bound j o e));
       }
     where
       above : (j : ℕ) → j < n → kindOf j ≡ High → Dec (j ≡ k) → h j < max (g .high) (a + 1)
@@ -224,9 +225,9 @@ module _ {n k a : ℕ} {p : Places} {f : ℕ → ℕ} {g : Gap} (h : ℕ → ℕ
       record {
         start = b .start;
         end = omega arith;
-        above = λ j m e. rw (others j m (λ q. let z : _≡_ {A = ℕ} 0 1 = cc in omega arith)) (b .above j m e);
+        above = λ j m e. rw (others j m (λ q. true≢false cc)) (b .above j m e);
         below = λ j m e. below j m e (ℕ-discrete j k);
-        least = λ c m bound. b .least c m (λ j o e. rw (← others j o (λ q. let z : _≡_ {A = ℕ} 0 1 = cc in omega arith)) (bound j o e));
+        least = λ c m bound. b .least c m (λ j o e. rw (← others j o (λ q. true≢false cc)) (bound j o e));
         greatest = λ c m bound. let x = bound k l kind in omega arith;
       }
     where
@@ -270,7 +271,7 @@ module _ {n m k a : ℕ} {p : Places} {f : ℕ → ℕ} (h : ℕ → ℕ) (s : S
       s .apart i j (o₁ .0) (o₂ .0) d (o₁ .1 ∙ q ∙ sym (o₂ .1))
 
   joined-order : (i j : ℕ) → i < m → j < m → Dec (i ≡ k) → Dec (j ≡ k) → kindOf i ≡ High → kindOf j ≡ Low → h i < h j
-  joined-order i j l l′ (yes e) (yes e′) high low = let z : _≡_ {A = ℕ} 0 1 = cc in absurd (omega arith)
+  joined-order i j l l′ (yes e) (yes e′) high low = absurd (true≢false cc)
   joined-order i j l l′ (yes e) (no d) high low = let o = others j l′ d in rw (e, at, ← o .1) (new .below j (o .0) low)
   joined-order i j l l′ (no d) (yes e) high low = let o = others i l d in rw (e, at, ← o .1) (new .above i (o .0) high)
   joined-order i j l l′ (no d₁) (no d₂) high low =

@@ -20,26 +20,26 @@ use borrow.Author.Tests.{ne-eqb}
 use Rattle.counter.specs.declared.map.Kind.{Kind}
 use Rattle.counter.specs.declared.map.Kind.the-variants.{High, Low}
 use Rattle.counter.specs.declared.places.Places.{Places}
+use Rattle.counter.specs.Layout.{Layout, mapCells}
 use Rattle.counter.specs.Slots.{kindOf}
-use Rattle.counter.specs.Places.{mapCells}
 use Rattle.counter.specs.Map.{mapIn, byteAt, marked, offsetOf, pointerAt, pointerOf, pointerBytes}
 use Rattle.counter.proofs.Offsets.{bytesOf}
 use Rattle.counter.proofs.Settings.{Placed}
 
-pub map-byte : (copies : ℕ) (p : Places) (cells : List ℕ) (j : ℕ) → j < mapCells copies → byteAt (mapIn copies p cells) j ≡ getD cells (p .map + j) 0
-map-byte copies p cells j h = getD-take (mapCells copies) (drop (p .map) cells) j 0 h ∙ getD-drop (p .map) cells j 0
+pub map-byte : (layout : Layout) (p : Places) (cells : List ℕ) (j : ℕ) → j < mapCells layout → byteAt (mapIn layout p cells) j ≡ getD cells (p .map + j) 0
+map-byte layout p cells j h = getD-take (mapCells layout) (drop (p .map) cells) j 0 h ∙ getD-drop (p .map) cells j 0
 
 -- the map of an image of some length has some length
-map-length : (copies : ℕ) (p : Places) (one other : List ℕ) → length one ≡ length other → length (mapIn copies p one) ≡ length (mapIn copies p other)
-map-length copies p one other e = simp (length-take, length-drop) (rw e)
+map-length : (layout : Layout) (p : Places) (one other : List ℕ) → length one ≡ length other → length (mapIn layout p one) ≡ length (mapIn layout p other)
+map-length layout p one other e = simp (length-take, length-drop) (rw e)
 
 pub map-same :
-    (copies : ℕ) (p : Places) (one other : List ℕ) → length one ≡ length other
-    → ((j : ℕ) → j < mapCells copies → getD one (p .map + j) 0 ≡ getD other (p .map + j) 0)
-    → mapIn copies p one ≡ mapIn copies p other
-map-same copies p one other e same =
-    ext-getD 0 (mapIn copies p one) (mapIn copies p other) (map-length copies p one other e)
-    (λ j l. let h : j < mapCells copies = omega (arith, simp length-take at l) in map-byte copies p one j h ∙ same j h ∙ sym (map-byte copies p other j h))
+    (layout : Layout) (p : Places) (one other : List ℕ) → length one ≡ length other
+    → ((j : ℕ) → j < mapCells layout → getD one (p .map + j) 0 ≡ getD other (p .map + j) 0)
+    → mapIn layout p one ≡ mapIn layout p other
+map-same layout p one other e same =
+    ext-getD 0 (mapIn layout p one) (mapIn layout p other) (map-length layout p one other e)
+    (λ j l. let h : j < mapCells layout = omega (arith, simp length-take at l) in map-byte layout p one j h ∙ same j h ∙ sym (map-byte layout p other j h))
 
 -- a pointer reads its own bytes alone
 at-same :
@@ -88,8 +88,8 @@ pub mark-none : (map : List ℕ) → (byteAt map 0 ≡ 0xA5 → ⊥) → marked 
 unfolding marked
 mark-none map other = rw (ne-eqb _ _ other)
 
-pub map-part : (copies : ℕ) (p : Places) (cells : List ℕ) → take (p .map + mapCells copies - p .map) (drop (p .map) cells) ≡ mapIn copies p cells
-map-part copies p cells = let e : p .map + mapCells copies - p .map ≡ mapCells copies = omega arith in rw e
+pub map-part : (layout : Layout) (p : Places) (cells : List ℕ) → take (p .map + mapCells layout - p .map) (drop (p .map) cells) ≡ mapIn layout p cells
+map-part layout p cells = let e : p .map + mapCells layout - p .map ≡ mapCells layout = omega arith in rw e
 
-pub map-whole : {copies : ℕ} {p : Places} (cells : List ℕ) → Placed copies (length cells) p → length (mapIn copies p cells) ≡ mapCells copies
+pub map-whole : {layout : Layout} {p : Places} (cells : List ℕ) → Placed layout (length cells) p → length (mapIn layout p cells) ≡ mapCells layout
 map-whole cells good = let fits = good .mapFits in simp (length-take, length-drop) (omega arith)

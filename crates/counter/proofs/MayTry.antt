@@ -6,7 +6,7 @@
 --   tried-facts, facts-tried  the test turned into it and back
 use Prim.Native.Nat.{ℕ, _≤_, _<_}
 use mathlib.Core.Path.{_≡_, refl, _∙_}
-use mathlib.Core.Bool.{true, false}
+use mathlib.Core.Bool.{true, false, true≢false}
 use native.Mathlib.Omega.{arith}
 use lib.Dec.{leb, ltb}
 use borrow.Author.Tests.{le-leb, lt-leb, lt-ltb, leb-true, ltb-true}
@@ -48,24 +48,18 @@ pub record Tried (p : Places) (kind : Kind) (g : Gap) (a : ℕ) : Type 0 where
   pub below : kind ≡ High → a < g .low
   pub above : kind ≡ Low → g .high ≤ a
 
-apart : {A : Type 0} → _≡_ {A = Kind} High Low → A
-apart e = let z : _≡_ {A = ℕ} 0 1 = cc in absurd (omega arith)
-
-apart′ : {A : Type 0} → _≡_ {A = Kind} Low High → A
-apart′ e = let z : _≡_ {A = ℕ} 0 1 = cc in absurd (omega arith)
-
 pub tried-facts : (p : Places) (kind : Kind) (g : Gap) (a : ℕ) → mayTry p kind g a ≡ true → Tried p kind g a
 unfolding mayTry
 tried-facts p High g a h =
-    let area = and-true _ _ h in
-    let inside = and-true (leb (p .start) a) _ (area .0) in
-    let reach = and-true (leb a 255) _ (area .1) in
+    let border = and-true _ (ltb a (g .low)) h in
+    let reach = and-true _ (leb a 255) (border .0) in
+    let inside = and-true (leb (p .start) a) _ (reach .0) in
     record {
       from = leb-true _ _ (inside .0);
       to = leb-true _ _ (inside .1);
-      reach = λ e. leb-true _ _ (reach .0);
-      below = λ e. ltb-true _ _ (reach .1);
-      above = apart;
+      reach = λ e. leb-true _ _ (reach .1);
+      below = λ e. ltb-true _ _ (border .1);
+      above = λ e. absurd (true≢false cc);
     }
 tried-facts p Low g a h =
     let area = and-true _ _ h in
@@ -73,8 +67,8 @@ tried-facts p Low g a h =
     record {
       from = leb-true _ _ (inside .0);
       to = leb-true _ _ (inside .1);
-      reach = apart′;
-      below = apart′;
+      reach = λ e. absurd (true≢false cc);
+      below = λ e. absurd (true≢false cc);
       above = λ e. leb-true _ _ (area .1);
     }
 

@@ -13,7 +13,7 @@
 --   slot-refused              a slot whose cell refuses the byte is moved
 use Prim.Native.Nat.{ℕ, _+_, _≤_, _<_}
 use mathlib.Core.Path.{_≡_, refl, sym, ap, _∙_}
-use mathlib.Core.Bool.{Bool, true, false}
+use mathlib.Core.Bool.{Bool, true, false, cond, true≢false}
 use mathlib.Core.List.{List, [], _∷_, _++_, append-nil}
 use mathlib.Core.Logic.{_⊎_, inl, inr}
 use native.Mathlib.Decide.{ℕ-discrete}
@@ -23,7 +23,7 @@ use lib.ListN.{length}
 use borrow.Author.Tests.{ne-eqb}
 use Rattle.cells.specs.declared.row.Found.{Found}
 use Rattle.cells.specs.declared.row.Found.the-variants.{At, Nowhere}
-use Rattle.cells.specs.Chip.{Chip, cellAt, lifeAt, pick, Paired}
+use Rattle.cells.specs.Chip.{Chip, cellAt, lifeAt, Paired}
 use Rattle.cells.specs.Run.{Run, Write, write, run, still, _then_, _giving_}
 use Rattle.cells.specs.Log.{askedIn, Within}
 use Rattle.cells.specs.Put.{putAt}
@@ -35,7 +35,8 @@ use Rattle.counter.specs.declared.verdict.Work.{Work}
 use Rattle.counter.specs.declared.verdict.Work.the-variants.{Done, Stopped}
 use Rattle.counter.specs.declared.verdict.Refusal.{Refusal}
 use Rattle.counter.specs.declared.verdict.Refusal.the-variants.{NoSpare, MapByte}
-use Rattle.counter.specs.Slots.{slots, kindOf}
+use Rattle.counter.specs.Layout.{Layout, slots}
+use Rattle.counter.specs.Slots.{kindOf}
 use Rattle.counter.specs.Map.{mapIn, marked, pointerOf}
 use Rattle.counter.specs.Spares.{narrow, gapOf}
 use Rattle.counter.specs.Store.{putPointer, trySpares, moveTo, moveSlot, storeSlot}
@@ -45,11 +46,11 @@ use Rattle.counter.proofs.Ready.{pointers, dataOf, Ready, Own, ready-ke
 use Rattle.counter.proofs.Pointers.{of-map, of-elsewhere, PointerLaws, pointer-laws}
 use Rattle.counter.proofs.Tries.{room, Missing, Landing, Trying, Trying.missing, Trying.landing, try-laws}
 
-abbrev pub gapAt : ℕ → Places → Chip → Gap
-gapAt copies p s = gapOf copies p (pointers copies p s)
+abbrev pub gapAt : Layout → Places → Chip → Gap
+gapAt layout p s = gapOf layout p (pointers layout p s)
 
-abbrev pub roomOf : ℕ → Places → Chip → ℕ
-roomOf copies p s = room (gapAt copies p s)
+abbrev pub roomOf : Layout → Places → Chip → ℕ
+roomOf layout p s = room (gapAt layout p s)
 
 pub data Ended (w : Work) : Type 0 where
   done : w ≡ Done → Ended w
@@ -58,51 +59,51 @@ pub data Ended (w : Work) : Type 0 where
 
 -- what stopped is not done
 pub not-done : {A : Type 0} {why : Refusal} → Stopped why ≡ Done → A
-not-done e = let z : _≡_ {A = ℕ} 0 1 = cc in absurd (omega arith)
+not-done e = absurd (true≢false cc)
 
 -- slot k holds b, the others what they held, in a sound map; and what was asked of area cells has been paid for
-pub record Settles (copies : ℕ) (p : Places) (k b cost : ℕ) (s : Chip) (r : Run Work) : Type 0 where
-  pub sound : Sound (slots copies) p (pointers copies p (r .after))
-  pub held : dataOf copies p (r .after) k ≡ b
-  pub kept : (j : ℕ) → j < slots copies → (j ≡ k → ⊥) → dataOf copies p (r .after) j ≡ dataOf copies p s j
-  pub paid : askedIn (p .start) (p .end) (r .log) + roomOf copies p (r .after) ≤ cost + roomOf copies p s
+pub record Settles (layout : Layout) (p : Places) (k b cost : ℕ) (s : Chip) (r : Run Work) : Type 0 where
+  pub sound : Sound (slots layout) p (pointers layout p (r .after))
+  pub held : dataOf layout p (r .after) k ≡ b
+  pub kept : (j : ℕ) → j < slots layout → (j ≡ k → ⊥) → dataOf layout p (r .after) j ≡ dataOf layout p s j
+  pub paid : askedIn (p .start) (p .end) (r .log) + roomOf layout p (r .after) ≤ cost + roomOf layout p s
 
-pub record Moves (copies : ℕ) (p : Places) (k b cost : ℕ) (s : Chip) (r : Run Work) : Type 0 where
-  pub within : Within (Own copies p) s r
-  pub mark : marked (mapIn copies p (r .after .cells)) ≡ marked (mapIn copies p (s .cells))
-  pub others : (j : ℕ) → j < slots copies → (j ≡ k → ⊥) → pointers copies p (r .after) j ≡ pointers copies p s j
-  pub bounded : askedIn (p .start) (p .end) (r .log) ≤ cost + roomOf copies p s
-  pub settles : r .answer ≡ Done → Settles copies p k b cost s r
+pub record Moves (layout : Layout) (p : Places) (k b cost : ℕ) (s : Chip) (r : Run Work) : Type 0 where
+  pub within : Within (Own layout p) s r
+  pub mark : marked (mapIn layout p (r .after .cells)) ≡ marked (mapIn layout p (s .cells))
+  pub others : (j : ℕ) → j < slots layout → (j ≡ k → ⊥) → pointers layout p (r .after) j ≡ pointers layout p s j
+  pub bounded : askedIn (p .start) (p .end) (r .log) ≤ cost + roomOf layout p s
+  pub settles : r .answer ≡ Done → Settles layout p k b cost s r
   pub ended : Ended (r .answer)
 
 -- ## A move
 
-module _ (copies : ℕ) (p : Places) (k b : ℕ) (s : Chip) where
+module _ (layout : Layout) (p : Places) (k b : ℕ) (s : Chip) where
   abbrev pub tries : Run Found
-  tries = trySpares k (gapAt copies p s) b s
+  tries = trySpares k (gapAt layout p s) b s
 
-  pub move-missing : tries .answer ≡ Nowhere → moveSlot copies p k b s ≡ tries then still (Stopped (NoSpare k)) (tries .after)
+  pub move-missing : tries .answer ≡ Nowhere → moveSlot layout p k b s ≡ tries then still (Stopped (NoSpare k)) (tries .after)
   unfolding moveSlot moveTo
   move-missing e = rw e
 
-  pub move-landing : (a : ℕ) → tries .answer ≡ At a → moveSlot copies p k b s ≡ tries then putPointer p k a (tries .after)
+  pub move-landing : (a : ℕ) → tries .answer ≡ At a → moveSlot layout p k b s ≡ tries then putPointer p k a (tries .after)
   unfolding moveSlot moveTo
   move-landing a e = rw e
 
-module _ {copies : ℕ} {p : Places} {s : Chip} (ready : Ready copies p s) (sound : Sound (slots copies) p (pointers copies p s)) (k : ℕ) (l : k < slots copies) (b : ℕ) where
-  spare : {a : ℕ} → Free (kindOf k) (gapAt copies p s) a → Spare (kindOf k) (slots copies) p (pointers copies p s) a
-  spare = free-spare (between-map copies p (pointers copies p s))
+module _ {layout : Layout} {p : Places} {s : Chip} (ready : Ready layout p s) (sound : Sound (slots layout) p (pointers layout p s)) (k : ℕ) (l : k < slots layout) (b : ℕ) where
+  spare : {a : ℕ} → Free (kindOf k) (gapAt layout p s) a → Spare (kindOf k) (slots layout) p (pointers layout p s) a
+  spare = free-spare (between-map layout p (pointers layout p s))
 
-  tries-within : Within (Inside p) s (tries copies p k b s)
-  tries-within = within-wider (λ c f. spare f .inside) (try-laws k (gapAt copies p s) b s (ready .paired) .within)
+  tries-within : Within (Inside p) s (tries layout p k b s)
+  tries-within = within-wider (λ c f. spare f .inside) (try-laws k (gapAt layout p s) b s (ready .paired) .within)
 
   -- all writes of the tries are asked of area cells
-  tries-asked : askedIn (p .start) (p .end) (tries copies p k b s .log) ≡ length (tries copies p k b s .log)
+  tries-asked : askedIn (p .start) (p .end) (tries layout p k b s .log) ≡ length (tries layout p k b s .log)
   tries-asked = asked-all (p .start) (p .end) (every-wider (λ c i. (i .from, i .to)) (tries-within .places))
 
   missing-laws :
-      Missing k (gapAt copies p s) b s
-      → Moves copies p k b 0 s (tries copies p k b s then still (Stopped (NoSpare k)) (tries copies p k b s .after))
+      Missing k (gapAt layout p s) b s
+      → Moves layout p k b 0 s (tries layout p k b s then still (Stopped (NoSpare k)) (tries layout p k b s .after))
   missing-laws m =
       record {
         within = within-then (within-wider (λ c i. inr i) tries-within) (within-still _ _);
@@ -113,21 +114,21 @@ module _ {copies : ℕ} {p : Places} {s : Chip} (ready : Ready copies p s) (soun
         ended = roomless k refl;
       }
 
-  module _ (m : Landing k (gapAt copies p s) b s) where
+  module _ (m : Landing k (gapAt layout p s) b s) where
     abbrev landed : Chip
-    landed = tries copies p k b s .after
+    landed = tries layout p k b s .after
 
     abbrev puts : Run Work
     puts = putPointer p k (m .place) landed
 
-    landed-map : mapIn copies p (landed .cells) ≡ mapIn copies p (s .cells)
+    landed-map : mapIn layout p (landed .cells) ≡ mapIn layout p (s .cells)
     landed-map = map-kept ready (within-kept tries-within)
 
-    pointing : PointerLaws copies p k (m .place) landed
+    pointing : PointerLaws layout p k (m .place) landed
     pointing = pointer-laws (ready-kept ready (m .kept)) k l (m .place)
 
     -- the pointers of the other slots stay
-    landing-others : (j : ℕ) → j < slots copies → (j ≡ k → ⊥) → pointers copies p (puts .after) j ≡ pointers copies p s j
+    landing-others : (j : ℕ) → j < slots layout → (j ≡ k → ⊥) → pointers layout p (puts .after) j ≡ pointers layout p s j
     landing-others j h d = pointing .others j h d ∙ ap (λ (map : List ℕ). pointerOf map j) landed-map
 
     -- the cells of the area stay while the pointer is put
@@ -138,25 +139,25 @@ module _ {copies : ℕ} {p : Places} {s : Chip} (ready : Ready copies p s) (soun
     puts-asked : askedIn (p .start) (p .end) (puts .log) ≡ 0
     puts-asked = asked-apart (p .start) (p .end) (every-wider (λ c o. of-elsewhere ready k l o) (pointing .within .places))
 
-    landing-asked : askedIn (p .start) (p .end) (tries copies p k b s .log ++ puts .log) ≡ length (tries copies p k b s .log)
-    landing-asked = let e = asked-append (p .start) (p .end) (tries copies p k b s .log) (puts .log) in let h = tries-asked in let h′ = puts-asked in omega arith
+    landing-asked : askedIn (p .start) (p .end) (tries layout p k b s .log ++ puts .log) ≡ length (tries layout p k b s .log)
+    landing-asked = let e = asked-append (p .start) (p .end) (tries layout p k b s .log) (puts .log) in let h = tries-asked in let h′ = puts-asked in omega arith
 
-    narrowed : puts .answer ≡ Done → roomOf copies p (puts .after) ≡ room (narrow (kindOf k) (m .place) (gapAt copies p s))
+    narrowed : puts .answer ≡ Done → roomOf layout p (puts .after) ≡ room (narrow (kindOf k) (m .place) (gapAt layout p s))
     narrowed e =
-        let moved = between-moved (pointers copies p (puts .after)) (between-map copies p (pointers copies p s)) l (m .free) (pointing .held e) landing-others in
-        let same = between-unique (between-map copies p (pointers copies p (puts .after))) moved in
+        let moved = between-moved (pointers layout p (puts .after)) (between-map layout p (pointers layout p s)) l (m .free) (pointing .held e) landing-others in
+        let same = between-unique (between-map layout p (pointers layout p (puts .after))) moved in
         omega arith
 
-    landing-settles : puts .answer ≡ Done → Settles copies p k b 0 s (tries copies p k b s then puts)
+    landing-settles : puts .answer ≡ Done → Settles layout p k b 0 s (tries layout p k b s then puts)
     landing-settles e =
         record {
-          sound = sound-joined (pointers copies p (puts .after)) sound (spare (m .free)) (pointing .held e) (λ j h d. (h, sym (landing-others j h d)));
+          sound = sound-joined (pointers layout p (puts .after)) sound (spare (m .free)) (pointing .held e) (λ j h d. (h, sym (landing-others j h d)));
           held = ap (cellAt (puts .after)) (pointing .held e) ∙ area-kept (m .place) (spare (m .free) .inside) ∙ m .held;
           kept = λ j h d. ap (cellAt (puts .after)) (landing-others j h d) ∙ area-kept _ (sound .inside j h) ∙ m .kept .cell _ (spare-fresh (spare (m .free)) j h);
           paid = let h = m .cost in let h₁ = landing-asked in let h₂ = narrowed e in omega arith;
         }
 
-    landing-laws : Moves copies p k b 0 s (tries copies p k b s then puts)
+    landing-laws : Moves layout p k b 0 s (tries layout p k b s then puts)
     landing-laws =
         record {
           within = within-then (within-wider (λ c i. inr i) tries-within) (within-wider (λ c o. inl (of-map ready k l o)) (pointing .within));
@@ -171,79 +172,79 @@ module _ {copies : ℕ} {p : Places} {s : Chip} (ready : Ready copies p s) (soun
         ends (inl e) = done e
         ends (inr (x, e)) = unmapped x e
 
-  pub move-laws : Moves copies p k b 0 s (moveSlot copies p k b s)
-  move-laws = go (try-laws k (gapAt copies p s) b s (ready .paired) .trying)
+  pub move-laws : Moves layout p k b 0 s (moveSlot layout p k b s)
+  move-laws = go (try-laws k (gapAt layout p s) b s (ready .paired) .trying)
     where
-      go : Trying k (gapAt copies p s) b s → Moves copies p k b 0 s (moveSlot copies p k b s)
-      go (missing m) = rw (move-missing copies p k b s (m .nowhere)) (missing-laws m)
-      go (landing m) = rw (move-landing copies p k b s (m .place) (m .here)) (landing-laws m)
+      go : Trying k (gapAt layout p s) b s → Moves layout p k b 0 s (moveSlot layout p k b s)
+      go (missing m) = rw (move-missing layout p k b s (m .nowhere)) (missing-laws m)
+      go (landing m) = rw (move-landing layout p k b s (m .place) (m .here)) (landing-laws m)
 
 -- ## A slot
 
 -- one where the two bytes differ, else none
 abbrev pub change : ℕ → ℕ → ℕ
-change x b = pick (eqb x b) 0 1
+change x b = cond (eqb x b) 0 1
 
-module _ (copies : ℕ) (p : Places) (k b : ℕ) (s : Chip) where
+module _ (layout : Layout) (p : Places) (k b : ℕ) (s : Chip) where
   abbrev pub first : Run Bool
-  first = putAt (pointers copies p s k) b s
+  first = putAt (pointers layout p s k) b s
 
-  pub slot-held : first .answer ≡ true → storeSlot copies p k b s ≡ first giving Done
+  pub slot-held : first .answer ≡ true → storeSlot layout p k b s ≡ first giving Done
   unfolding storeSlot
   slot-held e = rw e
 
-  pub slot-failed : first .answer ≡ false → storeSlot copies p k b s ≡ first then moveSlot copies p k b (first .after)
+  pub slot-failed : first .answer ≡ false → storeSlot layout p k b s ≡ first then moveSlot layout p k b (first .after)
   unfolding storeSlot
   slot-failed e = rw e
 
   -- a slot that holds its byte is left alone
-  pub slot-there : dataOf copies p s k ≡ b → storeSlot copies p k b s ≡ still Done s
-  slot-there e = let h = put-there (pointers copies p s k) b s e in slot-held (ap (λ (r : Run Bool). r .answer) h) ∙ ap (λ (r : Run Bool). r giving Done) h
+  pub slot-there : dataOf layout p s k ≡ b → storeSlot layout p k b s ≡ still Done s
+  slot-there e = let h = put-there (pointers layout p s k) b s e in slot-held (ap (λ (r : Run Bool). r .answer) h) ∙ ap (λ (r : Run Bool). r giving Done) h
 
   -- a slot whose cell has life is written there
-  pub slot-alive : Paired s → 1 ≤ lifeAt s (pointers copies p s k) → storeSlot copies p k b s ≡ first giving Done
-  slot-alive paired h = slot-held (put-laws (pointers copies p s k) b s paired .alive h)
+  pub slot-alive : Paired s → 1 ≤ lifeAt s (pointers layout p s k) → storeSlot layout p k b s ≡ first giving Done
+  slot-alive paired h = slot-held (put-laws (pointers layout p s k) b s paired .alive h)
 
   -- a slot whose cell refuses the byte is moved
   pub slot-refused :
       Paired s → first .answer ≡ false
-      → storeSlot copies p k b s ≡ run false (write (pointers copies p s k) b ∷ []) 0 s then moveSlot copies p k b s
-  slot-refused paired e = slot-failed e ∙ ap (λ (r : Run Bool). r then moveSlot copies p k b (r .after)) (put-laws (pointers copies p s k) b s paired .unchanged e)
+      → storeSlot layout p k b s ≡ run false (write (pointers layout p s k) b ∷ []) 0 s then moveSlot layout p k b s
+  slot-refused paired e = slot-failed e ∙ ap (λ (r : Run Bool). r then moveSlot layout p k b (r .after)) (put-laws (pointers layout p s k) b s paired .unchanged e)
 
   -- what the put at the slot's cell asks
-  first-asked : length (first .log) ≤ change (dataOf copies p s k) b
-  first-asked = go (ℕ-discrete (dataOf copies p s k) b)
+  first-asked : length (first .log) ≤ change (dataOf layout p s k) b
+  first-asked = go (ℕ-discrete (dataOf layout p s k) b)
     where
-      go : Dec (dataOf copies p s k ≡ b) → length (first .log) ≤ change (dataOf copies p s k) b
-      go (yes e) = rw (put-there (pointers copies p s k) b s e) (omega arith)
-      go (no n) = rw (ne-eqb (dataOf copies p s k) b n) (put-cost (pointers copies p s k) b s)
+      go : Dec (dataOf layout p s k ≡ b) → length (first .log) ≤ change (dataOf layout p s k) b
+      go (yes e) = rw (put-there (pointers layout p s k) b s e) (omega arith)
+      go (no n) = rw (ne-eqb (dataOf layout p s k) b n) (put-cost (pointers layout p s k) b s)
 
-module _ {copies : ℕ} {p : Places} {s : Chip} (ready : Ready copies p s) (sound : Sound (slots copies) p (pointers copies p s)) (k : ℕ) (l : k < slots copies) (b : ℕ) where
-  put : PutLaws (pointers copies p s k) b s
-  put = put-laws (pointers copies p s k) b s (ready .paired)
+module _ {layout : Layout} {p : Places} {s : Chip} (ready : Ready layout p s) (sound : Sound (slots layout) p (pointers layout p s)) (k : ℕ) (l : k < slots layout) (b : ℕ) where
+  put : PutLaws (pointers layout p s k) b s
+  put = put-laws (pointers layout p s k) b s (ready .paired)
 
-  put-inside : Within (Inside p) s (first copies p k b s)
+  put-inside : Within (Inside p) s (first layout p k b s)
   put-inside = within-wider (λ c e. rw e (sound .inside k l)) (put .within)
 
-  put-map : mapIn copies p (first copies p k b s .after .cells) ≡ mapIn copies p (s .cells)
+  put-map : mapIn layout p (first layout p k b s .after .cells) ≡ mapIn layout p (s .cells)
   put-map = map-kept ready (within-kept put-inside)
 
-  put-asked : askedIn (p .start) (p .end) (first copies p k b s .log) ≤ change (dataOf copies p s k) b
+  put-asked : askedIn (p .start) (p .end) (first layout p k b s .log) ≤ change (dataOf layout p s k) b
   put-asked =
       let h = asked-all (p .start) (p .end) (every-wider (λ c i. (i .from, i .to)) (put-inside .places)) in
-      let h′ = first-asked copies p k b s in
+      let h′ = first-asked layout p k b s in
       omega arith
 
-  held-settles : first copies p k b s .answer ≡ true → Settles copies p k b (change (dataOf copies p s k) b) s (first copies p k b s giving Done)
+  held-settles : first layout p k b s .answer ≡ true → Settles layout p k b (change (dataOf layout p s k) b) s (first layout p k b s giving Done)
   held-settles e =
       record {
         sound = rw put-map sound;
         held = rw put-map (put .held e);
-        kept = λ j h d. rw put-map (put .kept .cell (pointers copies p s j) (sound .apart j k h l d));
+        kept = λ j h d. rw put-map (put .kept .cell (pointers layout p s j) (sound .apart j k h l d));
         paid = let h = put-asked in rw put-map (omega arith);
       }
 
-  held-laws : first copies p k b s .answer ≡ true → Moves copies p k b (change (dataOf copies p s k) b) s (first copies p k b s giving Done)
+  held-laws : first layout p k b s .answer ≡ true → Moves layout p k b (change (dataOf layout p s k) b) s (first layout p k b s giving Done)
   held-laws e =
       record {
         within = within-giving Done (within-wider (λ c i. inr i) put-inside);
@@ -255,15 +256,15 @@ module _ {copies : ℕ} {p : Places} {s : Chip} (ready : Ready copies p s) (soun
       }
 
   -- the write that failed, asked of a cell of the area
-  asked-first : (log : List Write) → askedIn (p .start) (p .end) (write (pointers copies p s k) b ∷ log) ≡ 1 + askedIn (p .start) (p .end) log
-  asked-first log = asked-here (p .start) (p .end) (write (pointers copies p s k) b) log (sound .inside k l .from) (sound .inside k l .to)
+  asked-first : (log : List Write) → askedIn (p .start) (p .end) (write (pointers layout p s k) b ∷ log) ≡ 1 + askedIn (p .start) (p .end) log
+  asked-first log = asked-here (p .start) (p .end) (write (pointers layout p s k) b) log (sound .inside k l .from) (sound .inside k l .to)
 
   moved-laws :
-      first copies p k b s .answer ≡ false
-      → Moves copies p k b 1 s (run false (write (pointers copies p s k) b ∷ []) 0 s then moveSlot copies p k b s)
+      first layout p k b s .answer ≡ false
+      → Moves layout p k b 1 s (run false (write (pointers layout p s k) b ∷ []) 0 s then moveSlot layout p k b s)
   moved-laws e =
       let m = move-laws ready sound k l b in
-      let asked = asked-first (moveSlot copies p k b s .log) in
+      let asked = asked-first (moveSlot layout p k b s .log) in
       record {
         within = within-then (within-wider (λ c i. inr i) (rw (put .unchanged e) at put-inside)) (m .within);
         mark = m .mark;
@@ -273,9 +274,9 @@ module _ {copies : ℕ} {p : Places} {s : Chip} (ready : Ready copies p s) (soun
         ended = m .ended;
       }
 
-  pub slot-laws : Moves copies p k b (change (dataOf copies p s k) b) s (storeSlot copies p k b s)
-  slot-laws = go (first copies p k b s .answer) refl
+  pub slot-laws : Moves layout p k b (change (dataOf layout p s k) b) s (storeSlot layout p k b s)
+  slot-laws = go (first layout p k b s .answer) refl
     where
-      go : (t : Bool) → first copies p k b s .answer ≡ t → Moves copies p k b (change (dataOf copies p s k) b) s (storeSlot copies p k b s)
-      go true e = rw (slot-held copies p k b s e) (held-laws e)
-      go false e = rw (slot-refused copies p k b s (ready .paired) e, ne-eqb (dataOf copies p s k) b (put .failed e .other)) (moved-laws e)
+      go : (t : Bool) → first layout p k b s .answer ≡ t → Moves layout p k b (change (dataOf layout p s k) b) s (storeSlot layout p k b s)
+      go true e = rw (slot-held layout p k b s e) (held-laws e)
+      go false e = rw (slot-refused layout p k b s (ready .paired) e, ne-eqb (dataOf layout p s k) b (put .failed e .other)) (moved-laws e)

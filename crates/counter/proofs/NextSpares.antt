@@ -8,7 +8,7 @@
 --   spares-written            the next one has life and another byte: it is written, once, and nothing else
 use Prim.Native.Nat.{ℕ, suc, _+_, _-_, _%_, _≤_, _<_, min, max}
 use mathlib.Core.Path.{_≡_, sym, ap, _∙_}
-use mathlib.Core.Bool.{Bool, true, false}
+use mathlib.Core.Bool.{Bool, true, false, true≢false}
 use mathlib.Core.List.{[], _∷_}
 use native.Mathlib.Omega.{arith}
 use Rattle.cells.specs.declared.row.Found.the-variants.{At, Nowhere}
@@ -35,7 +35,7 @@ use Rattle.counter.proofs.StoreViews.{GapFits}
 pub next-free : (kind : Kind) (g : Gap) → 0 < sparesOf kind g → Free kind g (nextOf kind g)
 unfolding sparesOf nextOf
 next-free High g some = record { from = omega arith; to = omega arith; reach = λ e. omega arith }
-next-free Low g some = record { from = omega arith; to = omega arith; reach = λ e. let z : _≡_ {A = ℕ} 0 1 = cc in absurd (omega arith) }
+next-free Low g some = record { from = omega arith; to = omega arith; reach = λ e. absurd (true≢false cc) }
 
 pub next-room : (kind : Kind) (g : Gap) → 0 < sparesOf kind g → room (narrow kind (nextOf kind g) g) < room g
 unfolding sparesOf nextOf narrow

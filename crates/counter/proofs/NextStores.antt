@@ -24,7 +24,7 @@ use Rattle.cells.proofs.Logs.{within-kept}
 use Rattle.counter.specs.declared.places.Places.{Places}
 use Rattle.counter.specs.declared.verdict.Work.{Work}
 use Rattle.counter.specs.declared.verdict.Work.the-variants.{Done, Stopped}
-use Rattle.counter.specs.Slots.{two, slots}
+use Rattle.counter.specs.Layout.{Layout, two, slots}
 use Rattle.counter.specs.Places.{fitted}
 use Rattle.counter.specs.Map.{sound}
 use Rattle.counter.specs.Verdict.{_andThen_}
@@ -74,25 +74,25 @@ still-then s work = rw zero-add
 
 -- ## Slots that hold their codes
 
-module _ (copies : ℕ) (p : Places) (d : ℕ) where
+module _ (layout : Layout) (p : Places) (d : ℕ) where
   pub held-passed :
-      (m n k : ℕ) (s : Chip) → ((j : ℕ) → k ≤ j → j < k + m → dataOf copies p s j ≡ slotCode d j)
-      → storeFrom (m + n) k copies p d s ≡ storeFrom n (k + m) copies p d s
+      (m n k : ℕ) (s : Chip) → ((j : ℕ) → k ≤ j → j < k + m → dataOf layout p s j ≡ slotCode d j)
+      → storeFrom (m + n) k layout p d s ≡ storeFrom n (k + m) layout p d s
   unfolding storeFrom
   held-passed zero n k s held = rw (zero-add, add-zero)
   held-passed (suc m) n k s held =
       let e : suc m + n ≡ suc (m + n) = omega arith in
       let f : k + suc m ≡ k + 1 + m = omega arith in
-      rw (e, f, slot-there copies p k (slotCode d k) s (held k (omega arith) (omega arith)))
-      (still-then s (storeFrom (m + n) (k + 1) copies p d) ∙ held-passed m n (k + 1) s (λ j l u. held j (omega arith) (omega arith)))
+      rw (e, f, slot-there layout p k (slotCode d k) s (held k (omega arith) (omega arith)))
+      (still-then s (storeFrom (m + n) (k + 1) layout p d) ∙ held-passed m n (k + 1) s (λ j l u. held j (omega arith) (omega arith)))
 
-  pub store-held : (s : Chip) → Holds copies p d (s .cells) → store copies p d s ≡ still Done s
+  pub store-held : (s : Chip) → Holds layout p d (s .cells) → store layout p d s ≡ still Done s
   unfolding store storeFrom
   store-held s held =
-      ap (λ (n : ℕ). storeFrom n 0 copies p d s) (sym (add-zero (slots copies)))
-      ∙ held-passed (slots copies) 0 0 s (λ j l u. held j (omega arith))
+      ap (λ (n : ℕ). storeFrom n 0 layout p d s) (sym (add-zero (slots layout)))
+      ∙ held-passed (slots layout) 0 0 s (λ j l u. held j (omega arith))
 
-  pub held-next : (s : Chip) (work : Chip → Run Work) → Holds copies p d (s .cells) → store copies p d s andThen work ≡ work s
+  pub held-next : (s : Chip) (work : Chip → Run Work) → Holds layout p d (s .cells) → store layout p d s andThen work ≡ work s
   held-next s work held = ap (λ (r : Run Work). r andThen work) (store-held s held) ∙ still-then s work
 
 -- ## The next count

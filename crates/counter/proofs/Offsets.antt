@@ -18,10 +18,10 @@ use lib.ListN.{length}
 use borrow.Author.Tests.{lt-ltb, le-ltb}
 use Rattle.counter.specs.declared.map.Kind.{Kind}
 use Rattle.counter.specs.declared.map.Kind.the-variants.{High, Low}
-use Rattle.counter.specs.Slots.{slots, kindOf}
-use Rattle.counter.specs.Places.{mapCells}
+use Rattle.counter.specs.Slots.{kindOf}
 use Rattle.counter.specs.Map.{byteAt, offsetIn, offsetOf, pointerAt, pointerOf, pointerBytes}
 use mathlib.Core.List.{List}
+use Rattle.counter.specs.Layout.{Layout, slots, mapCells}
 
 pub kind-low : (k : ℕ) → k % 8 < 3 → kindOf k ≡ Low
 unfolding kindOf
@@ -98,27 +98,27 @@ offset-before j k h = go (earlier j k h) (lies j) (lies k)
     go (inr q) (high h kind at size) (low h′ kind′ at′ size′) = omega arith
     go (inr q) (high h kind at size) (high h′ kind′ at′ size′) = omega arith
 
-pub offset-inside : (copies k : ℕ) → k < slots copies → offsetOf k + bytesOf (kindOf k) ≤ mapCells copies
-offset-inside copies k h = go (lies k)
+pub offset-inside : (layout : Layout) (k : ℕ) → k < slots layout → offsetOf k + bytesOf (kindOf k) ≤ mapCells layout
+offset-inside layout k h = go (lies k)
   where
-    go : Lies k → offsetOf k + bytesOf (kindOf k) ≤ mapCells copies
+    go : Lies k → offsetOf k + bytesOf (kindOf k) ≤ mapCells layout
     go (low h′ kind at size) = omega arith
     go (high h′ kind at size) = omega arith
 
-pub offset-most : (copies k : ℕ) → k ≤ slots copies → offsetOf k ≤ mapCells copies
-offset-most copies k h = go (lies k)
+pub offset-most : (layout : Layout) (k : ℕ) → k ≤ slots layout → offsetOf k ≤ mapCells layout
+offset-most layout k h = go (lies k)
   where
-    go : Lies k → offsetOf k ≤ mapCells copies
+    go : Lies k → offsetOf k ≤ mapCells layout
     go (low h′ kind at size) = omega arith
     go (high h′ kind at size) = omega arith
 
-pub low-inside : (copies k : ℕ) → k < slots copies → k % 8 < 3 → offsetOf k + 2 ≤ mapCells copies
+pub low-inside : (layout : Layout) (k : ℕ) → k < slots layout → k % 8 < 3 → offsetOf k + 2 ≤ mapCells layout
 unfolding bytesOf
-low-inside copies k h l = rw (kind-low k l) at (offset-inside copies k h)
+low-inside layout k h l = rw (kind-low k l) at (offset-inside layout k h)
 
-pub high-inside : (copies k : ℕ) → k < slots copies → 3 ≤ k % 8 → offsetOf k + 1 ≤ mapCells copies
+pub high-inside : (layout : Layout) (k : ℕ) → k < slots layout → 3 ≤ k % 8 → offsetOf k + 1 ≤ mapCells layout
 unfolding bytesOf
-high-inside copies k h l = rw (kind-high k l) at (offset-inside copies k h)
+high-inside layout k h l = rw (kind-high k l) at (offset-inside layout k h)
 
 pub offset-low : (k : ℕ) → k % 8 < 3 → offsetOf k ≡ 2 + 11 * (k / 8) + 2 * (k % 8)
 unfolding offsetOf offsetIn

@@ -40,7 +40,8 @@ use Rattle.counter.specs.declared.spares.Gap.{Gap}
 use Rattle.counter.specs.declared.verdict.Work.{Work}
 use Rattle.counter.specs.declared.verdict.Work.the-variants.{Done, Stopped}
 use Rattle.counter.specs.declared.verdict.Refusal.the-variants.{NoSpare}
-use Rattle.counter.specs.Slots.{two, kindOf}
+use Rattle.counter.specs.Layout.{Layout, two}
+use Rattle.counter.specs.Slots.{kindOf}
 use Rattle.counter.specs.Map.{offsetIn, offsetOf, markBytes, reachable}
 use Rattle.counter.specs.Spares.{wholeArea, narrow, nextOf, sparesOf}
 use Rattle.counter.specs.Verdict.{_andThen_}
@@ -63,7 +64,7 @@ use Rattle.counter.proofs.PointerRows.{pointers-row}
 -- ## Settings
 
 -- a chip of the same lengths is as ready
-pub ready-same : {copies : ℕ} {p : Places} {s t : Chip} → Ready copies p s → length (t .cells) ≡ length (s .cells) → length (t .lives) ≡ length (s .lives) → Ready copies p t
+pub ready-same : {layout : Layout} {p : Places} {s t : Chip} → Ready layout p s → length (t .cells) ≡ length (s .cells) → length (t .lives) ≡ length (s .lives) → Ready layout p t
 ready-same ready e f = record { paired = f ∙ ready .paired ∙ sym e; long = rw e (ready .long); good = rw e (ready .good) }
 
 -- ## Gaps

@@ -27,7 +27,6 @@ use Rattle.counter.specs.declared.places.Places.{Places}
 use Rattle.counter.specs.declared.verdict.Work.{Work}
 use Rattle.counter.specs.declared.verdict.Work.the-variants.{Done, Stopped}
 use Rattle.counter.specs.declared.verdict.Refusal.the-variants.{NoSpare, MapByte}
-use Rattle.counter.specs.Slots.{slots}
 use Rattle.counter.specs.Map.{mapIn, byteAt, marked, markBytes}
 use Rattle.counter.specs.Spares.{wholeArea}
 use Rattle.counter.specs.Verdict.{_andThen_}
@@ -35,6 +34,7 @@ use Rattle.counter.specs.Store.{slotCode, putPointer, mapped}
 use Rattle.counter.specs.Opening.{Taken, takeFrom, putPointers, putMark, untried, firstOpening}
 use Rattle.code.proofs.GrayLaws.{gray-zero}
 use Rattle.code.proofs.NibbleLaws.{nibble-zero}
+use Rattle.counter.specs.Layout.{Layout, slots}
 use Rattle.counter.proofs.Offsets.{offset-first, offset-inside}
 use Rattle.counter.proofs.SoundPointers.{Inside, Sound, sound-none}
 use Rattle.counter.proofs.Gaps.{between-none}
@@ -53,22 +53,22 @@ pub data MapEnded (w : Work) : Type 0 where
   put : w ≡ Done → MapEnded w
   failed : (a : ℕ) → w ≡ Stopped (MapByte a) → MapEnded w
 
-pub record Points (copies : ℕ) (p : Places) (addresses : List ℕ) (k : ℕ) (s : Chip) (r : Run Work) : Type 0 where
-  pub within : Within (InMap copies p) s r
+pub record Points (layout : Layout) (p : Places) (addresses : List ℕ) (k : ℕ) (s : Chip) (r : Run Work) : Type 0 where
+  pub within : Within (InMap layout p) s r
   pub tried : r .tried ≡ 0
-  pub earlier : (j : ℕ) → j < k → pointers copies p (r .after) j ≡ pointers copies p s j
-  pub pointed : r .answer ≡ Done → (j : ℕ) → j < length addresses → pointers copies p (r .after) (k + j) ≡ getD addresses j 0
+  pub earlier : (j : ℕ) → j < k → pointers layout p (r .after) j ≡ pointers layout p s j
+  pub pointed : r .answer ≡ Done → (j : ℕ) → j < length addresses → pointers layout p (r .after) (k + j) ≡ getD addresses j 0
   pub ended : MapEnded (r .answer)
 
-module _ (copies : ℕ) (p : Places) where
+module _ (layout : Layout) (p : Places) where
   -- one pointer, and then the rest
   points-then :
       (a : ℕ) (rest : List ℕ) (k : ℕ) (s : Chip) (q : Run Work)
-      → Ready copies p s
-      → k + suc (length rest) ≤ slots copies
+      → Ready layout p s
+      → k + suc (length rest) ≤ slots layout
       → putPointer p k a s .answer ≡ Done
-      → Points copies p rest (k + 1) (putPointer p k a s .after) q
-      → Points copies p (a ∷ rest) k s (putPointer p k a s then q)
+      → Points layout p rest (k + 1) (putPointer p k a s .after) q
+      → Points layout p (a ∷ rest) k s (putPointer p k a s then q)
   points-then a rest k s q ready fits e points =
       record {
         within = within-then (within-wider (λ c o. of-map ready k (omega arith) o) (laws .within)) (points .within);
@@ -78,20 +78,20 @@ module _ (copies : ℕ) (p : Places) where
         ended = points .ended;
       }
     where
-      laws : PointerLaws copies p k a s
+      laws : PointerLaws layout p k a s
       laws = pointer-laws ready k (omega arith) a
 
-      here : q .answer ≡ Done → (j : ℕ) → j < suc (length rest) → pointers copies p (q .after) (k + j) ≡ getD (a ∷ rest) j 0
+      here : q .answer ≡ Done → (j : ℕ) → j < suc (length rest) → pointers layout p (q .after) (k + j) ≡ getD (a ∷ rest) j 0
       here d zero l = rw add-zero (points .earlier k (omega arith) ∙ laws .held e)
       here d (suc j) l = let h : k + suc j ≡ k + 1 + j = omega arith in rw h (points .pointed d j (omega arith))
 
   -- a pointer that stops ends it
   points-stop :
       (a : ℕ) (rest : List ℕ) (k : ℕ) (s : Chip) (x : ℕ)
-      → Ready copies p s
-      → k + suc (length rest) ≤ slots copies
+      → Ready layout p s
+      → k + suc (length rest) ≤ slots layout
       → putPointer p k a s .answer ≡ Stopped (MapByte x)
-      → Points copies p (a ∷ rest) k s (putPointer p k a s)
+      → Points layout p (a ∷ rest) k s (putPointer p k a s)
   points-stop a rest k s x ready fits e =
       let laws = pointer-laws ready k (omega arith) a in
       record {
@@ -103,41 +103,41 @@ module _ (copies : ℕ) (p : Places) where
       }
 
   pub points-laws :
-      (addresses : List ℕ) (k : ℕ) (s : Chip) → Ready copies p s → k + length addresses ≤ slots copies
-      → Points copies p addresses k s (putPointers addresses k p s)
+      (addresses : List ℕ) (k : ℕ) (s : Chip) → Ready layout p s → k + length addresses ≤ slots layout
+      → Points layout p addresses k s (putPointers addresses k p s)
   unfolding putPointers
   points-laws [] k s ready fits = record { within = within-still Done s; tried = refl; earlier = λ j l. refl; pointed = λ d j l. absurd (omega arith); ended = put refl }
   points-laws (a ∷ rest) k s ready fits = go (laws .either) (points-laws rest (k + 1) (putPointer p k a s .after) (ready-kept ready (within-kept (laws .within))) (omega arith))
     where
-      laws : PointerLaws copies p k a s
+      laws : PointerLaws layout p k a s
       laws = pointer-laws ready k (omega arith) a
 
       go :
           (putPointer p k a s .answer ≡ Done) ⊎ ((x : ℕ) × (putPointer p k a s .answer ≡ Stopped (MapByte x)))
-          → Points copies p rest (k + 1) (putPointer p k a s .after) (putPointers rest (k + 1) p (putPointer p k a s .after))
-          → Points copies p (a ∷ rest) k s (putPointer p k a s andThen putPointers rest (k + 1) p)
+          → Points layout p rest (k + 1) (putPointer p k a s .after) (putPointers rest (k + 1) p (putPointer p k a s .after))
+          → Points layout p (a ∷ rest) k s (putPointer p k a s andThen putPointers rest (k + 1) p)
       go (inl e) points = rw (done-then (putPointer p k a s) _ e) (points-then a rest k s _ ready fits e points)
       go (inr (x, e)) points = rw (stopped-then (putPointer p k a s) _ _ e) (points-stop a rest k s x ready fits e)
 
 -- ## The mark
 
-pub record MarkLaws (copies : ℕ) (p : Places) (s : Chip) : Type 0 where
-  pub within : Within (InMap copies p) s (putMark p s)
+pub record MarkLaws (layout : Layout) (p : Places) (s : Chip) : Type 0 where
+  pub within : Within (InMap layout p) s (putMark p s)
   pub tried : putMark p s .tried ≡ 0
-  pub pointed : (j : ℕ) → j < slots copies → pointers copies p (putMark p s .after) j ≡ pointers copies p s j
-  pub marks : putMark p s .answer ≡ Done → marked (mapIn copies p (putMark p s .after .cells)) ≡ true
+  pub pointed : (j : ℕ) → j < slots layout → pointers layout p (putMark p s .after) j ≡ pointers layout p s j
+  pub marks : putMark p s .answer ≡ Done → marked (mapIn layout p (putMark p s .after .cells)) ≡ true
   pub ended : MapEnded (putMark p s .answer)
 
-module _ {copies : ℕ} {p : Places} {s : Chip} (ready : Ready copies p s) where
+module _ {layout : Layout} {p : Places} {s : Chip} (ready : Ready layout p s) where
   row : RowLaws markBytes (p .map) s
   row = row-laws markBytes (p .map) s (ready .paired)
 
   mark-byte :
       putRow markBytes (p .map) s .answer ≡ Nowhere → (j : ℕ) → j < 2
-      → byteAt (mapIn copies p (putRow markBytes (p .map) s .after .cells)) j ≡ getD markBytes j 0
-  mark-byte e j l = map-byte copies p _ j (omega arith) ∙ row .held e j l
+      → byteAt (mapIn layout p (putRow markBytes (p .map) s .after .cells)) j ≡ getD markBytes j 0
+  mark-byte e j l = map-byte layout p _ j (omega arith) ∙ row .held e j l
 
-  pub mark-laws : MarkLaws copies p s
+  pub mark-laws : MarkLaws layout p s
   unfolding putMark
   mark-laws =
       record {
@@ -148,10 +148,10 @@ module _ {copies : ℕ} {p : Places} {s : Chip} (ready : Ready copies p s) where
         ended = ends (mapped-either (putRow markBytes (p .map) s .answer));
       }
     where
-      stays : (j : ℕ) → j < slots copies → pointers copies p (putRow markBytes (p .map) s .after) j ≡ pointers copies p s j
+      stays : (j : ℕ) → j < slots layout → pointers layout p (putRow markBytes (p .map) s .after) j ≡ pointers layout p s j
       stays j l =
           let h = offset-first j in
-          let h′ = offset-inside copies j l in
+          let h′ = offset-inside layout j l in
           pointer-same _ _ j (λ i from to. byte-kept ready (row .kept) i (omega arith) (λ o. let u = o .1 in omega arith))
 
       ends :
@@ -162,21 +162,21 @@ module _ {copies : ℕ} {p : Places} {s : Chip} (ready : Ready copies p s) where
 
 -- ## The whole map: all pointers, then the mark
 
-pub record Maps (copies : ℕ) (p : Places) (addresses : List ℕ) (s : Chip) (r : Run Work) : Type 0 where
-  pub within : Within (InMap copies p) s r
+pub record Maps (layout : Layout) (p : Places) (addresses : List ℕ) (s : Chip) (r : Run Work) : Type 0 where
+  pub within : Within (InMap layout p) s r
   pub tried : r .tried ≡ 0
-  pub pointed : r .answer ≡ Done → (j : ℕ) → j < slots copies → pointers copies p (r .after) j ≡ getD addresses j 0
-  pub marks : r .answer ≡ Done → marked (mapIn copies p (r .after .cells)) ≡ true
+  pub pointed : r .answer ≡ Done → (j : ℕ) → j < slots layout → pointers layout p (r .after) j ≡ getD addresses j 0
+  pub marks : r .answer ≡ Done → marked (mapIn layout p (r .after .cells)) ≡ true
   pub ended : MapEnded (r .answer)
 
-module _ {copies : ℕ} {p : Places} {s : Chip} (ready : Ready copies p s) (addresses : List ℕ) (many : length addresses ≡ slots copies) where
+module _ {layout : Layout} {p : Places} {s : Chip} (ready : Ready layout p s) (addresses : List ℕ) (many : length addresses ≡ slots layout) where
   abbrev pointing : Run Work
   pointing = putPointers addresses 0 p s
 
-  points : Points copies p addresses 0 s pointing
-  points = points-laws copies p addresses 0 s ready (omega arith)
+  points : Points layout p addresses 0 s pointing
+  points = points-laws layout p addresses 0 s ready (omega arith)
 
-  maps-done : pointing .answer ≡ Done → Maps copies p addresses s (pointing then putMark p (pointing .after))
+  maps-done : pointing .answer ≡ Done → Maps layout p addresses s (pointing then putMark p (pointing .after))
   maps-done e =
       record {
         within = within-then (points .within) (laws .within);
@@ -186,10 +186,10 @@ module _ {copies : ℕ} {p : Places} {s : Chip} (ready : Ready copies p s) (addr
         ended = laws .ended;
       }
     where
-      laws : MarkLaws copies p (pointing .after)
+      laws : MarkLaws layout p (pointing .after)
       laws = mark-laws (ready-kept ready (within-kept (points .within)))
 
-  maps-stop : (x : ℕ) → pointing .answer ≡ Stopped (MapByte x) → Maps copies p addresses s pointing
+  maps-stop : (x : ℕ) → pointing .answer ≡ Stopped (MapByte x) → Maps layout p addresses s pointing
   maps-stop x e =
       record {
         within = points .within;
@@ -199,61 +199,61 @@ module _ {copies : ℕ} {p : Places} {s : Chip} (ready : Ready copies p s) (addr
         ended = points .ended;
       }
 
-  pub maps-laws : Maps copies p addresses s (putPointers addresses 0 p s andThen putMark p)
+  pub maps-laws : Maps layout p addresses s (putPointers addresses 0 p s andThen putMark p)
   maps-laws = go (points .ended)
     where
-      go : MapEnded (pointing .answer) → Maps copies p addresses s (pointing andThen putMark p)
+      go : MapEnded (pointing .answer) → Maps layout p addresses s (pointing andThen putMark p)
       go (put e) = rw (done-then pointing (putMark p) e) (maps-done e)
       go (failed x e) = rw (stopped-then pointing (putMark p) _ e) (maps-stop x e)
 
 -- ## A first opening
 
 -- every slot holds the code of 0, in a sound map with its mark
-pub record Opened (copies : ℕ) (p : Places) (s : Chip) : Type 0 where
-  pub sound : Sound (slots copies) p (pointers copies p s)
-  pub marks : marked (mapIn copies p (s .cells)) ≡ true
-  pub held : (j : ℕ) → j < slots copies → dataOf copies p s j ≡ codeOf 0
+pub record Opened (layout : Layout) (p : Places) (s : Chip) : Type 0 where
+  pub sound : Sound (slots layout) p (pointers layout p s)
+  pub marks : marked (mapIn layout p (s .cells)) ≡ true
+  pub held : (j : ℕ) → j < slots layout → dataOf layout p s j ≡ codeOf 0
 
-pub record Opens (copies : ℕ) (p : Places) (s : Chip) (r : Run Work) : Type 0 where
-  pub within : Within (Own copies p) s r
+pub record Opens (layout : Layout) (p : Places) (s : Chip) (r : Run Work) : Type 0 where
+  pub within : Within (Own layout p) s r
   pub tried : r .tried ≡ 0
-  pub opened : r .answer ≡ Done → Opened copies p (r .after)
+  pub opened : r .answer ≡ Done → Opened layout p (r .after)
   pub ended : Ended (r .answer)
 
 pub whole-inside : (p : Places) (c : ℕ) → InGap (wholeArea p) c → Inside p c
 unfolding wholeArea
 whole-inside p c i = let h = i .from in let h′ = i .to in record { from = omega arith; to = omega arith }
 
-module _ {copies : ℕ} {p : Places} {s : Chip} (ready : Ready copies p s) where
+module _ {layout : Layout} {p : Places} {s : Chip} (ready : Ready layout p s) where
   abbrev taking : Run Taken
-  taking = untried (takeFrom (slots copies) 0 (wholeArea p) s)
+  taking = untried (takeFrom (slots layout) 0 (wholeArea p) s)
 
-  takes : Takes (slots copies) 0 (wholeArea p) s (takeFrom (slots copies) 0 (wholeArea p) s)
-  takes = take-laws (slots copies) 0 (wholeArea p) s (ready .paired)
+  takes : Takes (slots layout) 0 (wholeArea p) s (takeFrom (slots layout) 0 (wholeArea p) s)
+  takes = take-laws (slots layout) 0 (wholeArea p) s (ready .paired)
 
-  taking-within : Within (Own copies p) s (taking giving taking .answer .work)
+  taking-within : Within (Own layout p) s (taking giving taking .answer .work)
   taking-within = let w = takes .within in within-wider (λ c i. inr (whole-inside p c i)) (record { logged = w .logged; places = w .places })
 
   abbrev mapping : Chip → Run Work
   mapping t = putPointers (taking .answer .addresses) 0 p t andThen putMark p
 
-  module _ (t : AllTaken (slots copies) 0 (wholeArea p) (takeFrom (slots copies) 0 (wholeArea p) s)) where
-    maps : Maps copies p (taking .answer .addresses) (taking .after) (mapping (taking .after))
+  module _ (t : AllTaken (slots layout) 0 (wholeArea p) (takeFrom (slots layout) 0 (wholeArea p) s)) where
+    maps : Maps layout p (taking .answer .addresses) (taking .after) (mapping (taking .after))
     maps = maps-laws (ready-kept ready (within-kept taking-within)) (taking .answer .addresses) (t .many)
 
     -- the cells of the area stay while the map is put
     area-kept : (c : ℕ) → Inside p c → cellAt (mapping (taking .after) .after) c ≡ cellAt (taking .after) c
     area-kept c i = within-kept (maps .within) .cell c (λ o. apart-map ready o i)
 
-    opening-opened : mapping (taking .after) .answer ≡ Done → Opened copies p (mapping (taking .after) .after)
+    opening-opened : mapping (taking .after) .answer ≡ Done → Opened layout p (mapping (taking .after) .after)
     opening-opened e =
         record {
-          sound = rw zero-add at (t .sound p (pointers copies p (mapping (taking .after) .after)) (λ j l. rw zero-add (maps .pointed e j l)) (between-none p _) (sound-none p _));
+          sound = rw zero-add at (t .sound p (pointers layout p (mapping (taking .after) .after)) (λ j l. rw zero-add (maps .pointed e j l)) (between-none p _) (sound-none p _));
           marks = maps .marks e;
           held = λ j l. ap (cellAt (mapping (taking .after) .after)) (maps .pointed e j l) ∙ area-kept _ (whole-inside p _ (t .inside j l)) ∙ t .held j l;
         }
 
-    opening-done : Opens copies p s ((taking giving taking .answer .work) then mapping (taking .after))
+    opening-done : Opens layout p s ((taking giving taking .answer .work) then mapping (taking .after))
     opening-done =
         record {
           within = within-then taking-within (within-wider (λ c i. inl i) (maps .within));
@@ -266,15 +266,15 @@ module _ {copies : ℕ} {p : Places} {s : Chip} (ready : Ready copies p s) where
         ends (put e) = done e
         ends (failed x e) = unmapped x e
 
-  opening-stop : (k : ℕ) → taking .answer .work ≡ Stopped (NoSpare k) → Opens copies p s (taking giving taking .answer .work)
+  opening-stop : (k : ℕ) → taking .answer .work ≡ Stopped (NoSpare k) → Opens layout p s (taking giving taking .answer .work)
   opening-stop k e = record { within = taking-within; tried = refl; opened = λ d. not-done (sym e ∙ d); ended = roomless k e }
 
-  pub opening-laws : Opens copies p s (firstOpening copies p s)
+  pub opening-laws : Opens layout p s (firstOpening layout p s)
   opening-laws = go (takes .either)
     where
-      go : (taking .answer .work ≡ Done) ⊎ ((j : ℕ) × (taking .answer .work ≡ Stopped (NoSpare j))) → Opens copies p s (firstOpening copies p s)
-      go (inl e) = rw (opening-on copies p s e) (opening-done (takes .all e))
-      go (inr (k, e)) = rw (opening-ends copies p s e) (opening-stop k e)
+      go : (taking .answer .work ≡ Done) ⊎ ((j : ℕ) × (taking .answer .work ≡ Stopped (NoSpare j))) → Opens layout p s (firstOpening layout p s)
+      go (inl e) = rw (opening-on layout p s e) (opening-done (takes .all e))
+      go (inr (k, e)) = rw (opening-ends layout p s e) (opening-stop k e)
 
 -- what every slot holds at count 0
 pub zero-code : (k : ℕ) → slotCode 0 k ≡ codeOf 0

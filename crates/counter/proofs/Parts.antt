@@ -4,6 +4,7 @@
 --   part-inside               the part lies in the image
 use Prim.Native.Nat.{ℕ, _+_, _-_, _≤_}
 use mathlib.Core.Path.{_≡_, refl}
+use mathlib.Core.Bool.{_&&_}
 use mathlib.Core.List.{List}
 use native.Mathlib.Omega.{arith}
 use lib.IntN.{ℤ}
@@ -15,7 +16,7 @@ use Rattle.counter.specs.declared.verdict.Refusal.{Refusal}
 use Rattle.counter.specs.declared.verdict.Refusal.the-variants.{BadLength, BadPlaces, NoMark, UnsoundMap, BadCopy}
 use Rattle.counter.specs.declared.verdict.Verdict.{Verdict}
 use Rattle.counter.specs.declared.verdict.Verdict.the-variants.{Good, Refused}
-use Rattle.counter.specs.Slots.{two, _and_}
+use Rattle.counter.specs.Layout.{two}
 use Rattle.counter.specs.Places.{lengthGood, placesGood}
 use Rattle.counter.specs.Map.{mapIn, marked, pointerOf, sound, partAt}
 use Rattle.counter.specs.Verdict.{refusalOf}
@@ -38,9 +39,9 @@ module _ (p : Places) (cells : List ℕ) (copy : ℕ) where
       let good = unless-good (placesGood two (length cells) p) BadPlaces _ (long .1) in
       let mark = unless-good (marked (mapIn two p cells)) NoMark _ (good .1) in
       let well = unless-good (sound two p (pointerOf (mapIn two p cells))) UnsoundMap _ (mark .1) in
-      let copies = and-true (leb 1 copy) _ (unless-good (leb 1 copy and leb copy two) BadCopy _ (well .1) .0) in
-      let from = leb-true 1 copy (copies .0) in
-      let to = leb-true copy two (copies .1) in
+      let known = and-true (leb 1 copy) _ (unless-good (leb 1 copy && leb copy (two .copies)) BadCopy _ (well .1) .0) in
+      let from = leb-true 1 copy (known .0) in
+      let to = leb-true copy (two .copies) (known .1) in
       let placed = good-placed two (length cells) p (good .0) in
       record { first = from; last = to; inside = omega arith }
 

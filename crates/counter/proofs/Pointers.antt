@@ -19,7 +19,8 @@ use Rattle.cells.proofs.Rows.{RowLaws, row-laws}
 use Rattle.counter.specs.declared.places.Places.{Places}
 use Rattle.counter.specs.declared.verdict.Work.the-variants.{Done, Stopped}
 use Rattle.counter.specs.declared.verdict.Refusal.the-variants.{MapByte}
-use Rattle.counter.specs.Slots.{slots, kindOf}
+use Rattle.counter.specs.Layout.{Layout, slots}
+use Rattle.counter.specs.Slots.{kindOf}
 use Rattle.counter.specs.Map.{mapIn, byteAt, marked, offsetOf, pointerBytes}
 use Rattle.counter.specs.Store.{putPointer, mapped}
 use Rattle.counter.proofs.Offsets.{bytesOf, bytes-length, offset-first, offset-before, offset-inside}
@@ -45,18 +46,18 @@ unfolding mapped
 mapped-either (At a) = inr (a, refl)
 mapped-either Nowhere = inl refl
 
-pub record PointerLaws (copies : ℕ) (p : Places) (k a : ℕ) (s : Chip) : Type 0 where
+pub record PointerLaws (layout : Layout) (p : Places) (k a : ℕ) (s : Chip) : Type 0 where
   pub within : Within (OfPointer p k) s (putPointer p k a s)
   pub tried : putPointer p k a s .tried ≡ 0
-  pub held : putPointer p k a s .answer ≡ Done → pointers copies p (putPointer p k a s .after) k ≡ a
-  pub others : (j : ℕ) → j < slots copies → (j ≡ k → ⊥) → pointers copies p (putPointer p k a s .after) j ≡ pointers copies p s j
-  pub mark : marked (mapIn copies p (putPointer p k a s .after .cells)) ≡ marked (mapIn copies p (s .cells))
+  pub held : putPointer p k a s .answer ≡ Done → pointers layout p (putPointer p k a s .after) k ≡ a
+  pub others : (j : ℕ) → j < slots layout → (j ≡ k → ⊥) → pointers layout p (putPointer p k a s .after) j ≡ pointers layout p s j
+  pub mark : marked (mapIn layout p (putPointer p k a s .after .cells)) ≡ marked (mapIn layout p (s .cells))
   pub either : (putPointer p k a s .answer ≡ Done) ⊎ ((x : ℕ) × (putPointer p k a s .answer ≡ Stopped (MapByte x)))
 
-module _ {copies : ℕ} {p : Places} {s : Chip} (ready : Ready copies p s) (k : ℕ) (l : k < slots copies) where
-  pub of-map : {c : ℕ} → OfPointer p k c → InMap copies p c
+module _ {layout : Layout} {p : Places} {s : Chip} (ready : Ready layout p s) (k : ℕ) (l : k < slots layout) where
+  pub of-map : {c : ℕ} → OfPointer p k c → InMap layout p c
   of-map o =
-      let h = offset-inside copies k l in
+      let h = offset-inside layout k l in
       let h₁ = o .from in
       let h₂ = o .to in
       record { from = omega arith; to = omega arith }
@@ -82,30 +83,30 @@ module _ {copies : ℕ} {p : Places} {s : Chip} (ready : Ready copies p s) (k : 
         let e = bytes-length (kindOf k) a in
         within-giving _ (within-wider (λ c i. record { from = i .0; to = let h = i .1 in omega arith }) (row .within))
 
-    put-held : putPointer p k a s .answer ≡ Done → pointers copies p (putPointer p k a s .after) k ≡ a
+    put-held : putPointer p k a s .answer ≡ Done → pointers layout p (putPointer p k a s .after) k ≡ a
     unfolding putPointer
     put-held e =
-        let h = offset-inside copies k l in
+        let h = offset-inside layout k l in
         let size = bytes-length (kindOf k) a in
         pointer-put _ k a
         (λ i m.
-        map-byte copies p _ (offsetOf k + i) (omega arith)
+        map-byte layout p _ (offsetOf k + i) (omega arith)
         ∙ ap (cellAt (putRow (pointerBytes (kindOf k) a) (p .map + offsetOf k) s .after)) (sym (add-assoc (p .map) (offsetOf k) i))
         ∙ row .held (mapped-done _ e) i (omega arith))
 
     -- the pointers of other slots stay, and the bytes in front of all pointers
-    put-others : (j : ℕ) → j < slots copies → (j ≡ k → ⊥) → pointers copies p (putPointer p k a s .after) j ≡ pointers copies p s j
+    put-others : (j : ℕ) → j < slots layout → (j ≡ k → ⊥) → pointers layout p (putPointer p k a s .after) j ≡ pointers layout p s j
     put-others j m d =
-        let h = offset-inside copies j m in
+        let h = offset-inside layout j m in
         pointer-same _ _ j (λ i from to. byte-kept ready (within-kept put-in) i (omega arith) (apart j i d from to))
 
-    put-mark : marked (mapIn copies p (putPointer p k a s .after .cells)) ≡ marked (mapIn copies p (s .cells))
+    put-mark : marked (mapIn layout p (putPointer p k a s .after .cells)) ≡ marked (mapIn layout p (s .cells))
     put-mark = mark-same _ _ (byte 0 (omega arith)) (byte 1 (omega arith))
       where
-        byte : (j : ℕ) → j < 2 → byteAt (mapIn copies p (putPointer p k a s .after .cells)) j ≡ byteAt (mapIn copies p (s .cells)) j
+        byte : (j : ℕ) → j < 2 → byteAt (mapIn layout p (putPointer p k a s .after .cells)) j ≡ byteAt (mapIn layout p (s .cells)) j
         byte j m = let h = offset-first k in byte-kept ready (within-kept put-in) j (omega arith) (λ o. let h′ = o .from in omega arith)
 
-    pub pointer-laws : PointerLaws copies p k a s
+    pub pointer-laws : PointerLaws layout p k a s
     pointer-laws =
         record {
           within = put-in;

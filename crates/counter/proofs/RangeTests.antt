@@ -13,24 +13,23 @@
 --   no-claim                  what holds only where a test held that did not
 use Prim.Native.Nat.{ℕ, zero, suc, _+_, _-_, _≤_, _<_}
 use mathlib.Core.Path.{_≡_, refl, ap₂, ap, _∙_}
-use mathlib.Core.Bool.{Bool, true, false}
+use mathlib.Core.Bool.{Bool, true, false, _&&_, _||_, cond, true≢false}
 use mathlib.Core.Logic.{_⊎_, inl, inr}
 use native.Mathlib.Decide.{ℕ-discrete}
 use native.Mathlib.Omega.{arith}
 use Rattle.cells.specs.declared.row.Found.the-variants.{At, Nowhere}
-use Rattle.counter.specs.Slots.{_and_, _or_, every, some, lowest}
+use Rattle.counter.specs.Slots.{every, some, lowest}
 use native.Mathlib.Numerals.{add-one}
 use Rattle.cells.specs.declared.row.Found.{Found}
-use Rattle.cells.specs.Chip.{pick}
 
-pub and-true : (a b : Bool) → a and b ≡ true → (a ≡ true) × (b ≡ true)
+pub and-true : (a b : Bool) → a && b ≡ true → (a ≡ true) × (b ≡ true)
 and-true true b h = (refl, h)
 and-true false b h = (h, cc)
 
-pub true-and : (a b : Bool) → a ≡ true → b ≡ true → a and b ≡ true
+pub true-and : (a b : Bool) → a ≡ true → b ≡ true → a && b ≡ true
 true-and a b g h = rw (g, h)
 
-pub or-true : (a b : Bool) → a or b ≡ true → (a ≡ true) ⊎ (b ≡ true)
+pub or-true : (a b : Bool) → a || b ≡ true → (a ≡ true) ⊎ (b ≡ true)
 or-true true b h = inl refl
 or-true false b h = inr h
 
@@ -77,7 +76,7 @@ pub record Lowest (n k : ℕ) (test : ℕ → Bool) (j : ℕ) : Type 0 where
 
 pub lowest-at : (n k : ℕ) (test : ℕ → Bool) (j : ℕ) → lowest n k test ≡ At j → Lowest n k test j
 unfolding lowest
-lowest-at zero k test j e = let z : _≡_ {A = ℕ} 0 1 = cc in absurd (omega arith)
+lowest-at zero k test j e = absurd (true≢false cc)
 lowest-at (suc n) k test j e = go (lowest-at n (k + 1) test j) (test k) refl
   where
     go : (lowest n (k + 1) test ≡ At j → Lowest n (k + 1) test j) → (t : Bool) → test k ≡ t → Lowest (suc n) k test j
@@ -96,7 +95,7 @@ lowest-none zero k test e j l u = absurd (omega arith)
 lowest-none (suc n) k test e j l u = go (lowest-none n (k + 1) test) (test k) refl
   where
     go : (lowest n (k + 1) test ≡ Nowhere → (j : ℕ) → k + 1 ≤ j → j < k + 1 + n → test j ≡ false) → (t : Bool) → test k ≡ t → test j ≡ false
-    go later true h = let q : At k ≡ Nowhere = (rw h at e) in let z : _≡_ {A = ℕ} 0 1 = cc in absurd (omega arith)
+    go later true h = let q : At k ≡ Nowhere = (rw h at e) in absurd (true≢false cc)
     go later false h = here (later (rw h at e)) (ℕ-discrete j k)
       where
         here : ((j : ℕ) → k + 1 ≤ j → j < k + 1 + n → test j ≡ false) → Dec (j ≡ k) → test j ≡ false
@@ -126,19 +125,19 @@ module _ (m n : ℕ) (test : ℕ → Bool) (l : n < m) where
 pub every-same : (n : ℕ) (f g : ℕ → Bool) → ((k : ℕ) → k < n → f k ≡ g k) → every n f ≡ every n g
 unfolding every
 every-same zero f g h = refl
-every-same (suc n) f g h = ap₂ _and_ (every-same n f g (λ k l. h k (omega arith))) (h n (omega arith))
+every-same (suc n) f g h = ap₂ _&&_ (every-same n f g (λ k l. h k (omega arith))) (h n (omega arith))
 
 pub some-same : (n : ℕ) (f g : ℕ → Bool) → ((k : ℕ) → k < n → f k ≡ g k) → some n f ≡ some n g
 unfolding some
 some-same zero f g h = refl
-some-same (suc n) f g h = ap₂ _or_ (some-same n f g (λ k l. h k (omega arith))) (h n (omega arith))
+some-same (suc n) f g h = ap₂ _||_ (some-same n f g (λ k l. h k (omega arith))) (h n (omega arith))
 
 pub lowest-same : (n k : ℕ) (f g : ℕ → Bool) → ((j : ℕ) → k ≤ j → j < k + n → f j ≡ g j) → lowest n k f ≡ lowest n k g
 unfolding lowest
 lowest-same zero k f g h = refl
 lowest-same (suc n) k f g h =
-    ap₂ (λ (b : Bool) (r : Found). pick b (At k) r) (h k (omega arith) (omega arith))
+    ap₂ (λ (b : Bool) (r : Found). cond b (At k) r) (h k (omega arith) (omega arith))
     (lowest-same n (k + 1) f g (λ j l u. h j (omega arith) (omega arith)))
 
 pub no-claim : {A : Type 0} → false ≡ true → A
-no-claim e = let z : _≡_ {A = ℕ} 0 1 = cc in absurd (omega arith)
+no-claim e = absurd (true≢false cc)

@@ -17,7 +17,8 @@ use Rattle.code.proofs.ReadingLaws.{no-twofold, nibble-round, nibble-kept}
 use Rattle.cells.specs.declared.row.Found.the-variants.{Nowhere}
 use Rattle.code.proofs.TabulateLaws.{alike}
 use Rattle.counter.specs.declared.verdict.Verdict.the-variants.{Good}
-use Rattle.counter.specs.Slots.{slots, lowest}
+use Rattle.counter.specs.Layout.{Layout, slots}
+use Rattle.counter.specs.Slots.{lowest}
 use Rattle.counter.specs.Store.{slotCode}
 use Rattle.counter.specs.Reading.{nibbleIn, countIn, close, decide, twofoldAt, lostAt, weigh}
 use Rattle.counter.proofs.RangeTests.{every-not, none-some, none-lowest}
@@ -38,35 +39,35 @@ decide-same : (c : ℕ) → decide c c ≡ Good c (pos 0)
 unfolding decide close
 decide-same c = rw (+ℤ-invr (pos c))
 
-module _ (copies : ℕ) {c : ℕ} {byte : ℕ → ℕ} (small : c < 2 ^ 32) (exact : (k : ℕ) → k < slots copies → byte k ≡ slotCode c k) where
-  slot-in : (copy n : ℕ) → copy < copies → n < 8 → 8 * copy + n < slots copies
+module _ (layout : Layout) {c : ℕ} {byte : ℕ → ℕ} (small : c < 2 ^ 32) (exact : (k : ℕ) → k < slots layout → byte k ≡ slotCode c k) where
+  slot-in : (copy n : ℕ) → copy < layout .copies → n < 8 → 8 * copy + n < slots layout
   slot-in copy n l m = omega arith
 
-  nibble-read : (copy n : ℕ) → copy < copies → n < 8 → nibbleIn copies (λ k. readingOf (byte k)) copy n ≡ nibbleOf (grayOf c) n
+  nibble-read : (copy n : ℕ) → copy < layout .copies → n < 8 → nibbleIn layout (λ k. readingOf (byte k)) copy n ≡ nibbleOf (grayOf c) n
   unfolding nibbleIn
   nibble-read copy n l m =
       let e : (8 * copy + n) % 8 ≡ n = omega arith in
       rw (exact (8 * copy + n) (slot-in copy n l m), slot-kept) (slot-round c (8 * copy + n) ∙ ap (nibbleOf (grayOf c)) e)
 
-  pub count-read : (copy : ℕ) → copy < copies → countIn copies (λ k. readingOf (byte k)) copy ≡ c
+  pub count-read : (copy : ℕ) → copy < layout .copies → countIn layout (λ k. readingOf (byte k)) copy ≡ c
   unfolding countIn
   count-read copy l =
       ap (λ (ns : List ℕ). countOf (wordOf ns)) (alike _ _ 8 (λ n m. nibble-read copy n l m))
       ∙ ap countOf (word-of-nibbles (grayOf c) (gray-small 32 c small))
       ∙ count-of-gray c small
 
-  none-twofold : lowest 8 0 (twofoldAt copies byte) ≡ Nowhere
-  none-twofold = none-lowest 8 0 (twofoldAt copies byte) (λ n from to. none-some copies _ (λ copy l. single copy n l (omega arith)))
+  none-twofold : lowest 8 0 (twofoldAt layout byte) ≡ Nowhere
+  none-twofold = none-lowest 8 0 (twofoldAt layout byte) (λ n from to. none-some (layout .copies) _ (λ copy l. single copy n l (omega arith)))
     where
-      single : (copy n : ℕ) → copy < copies → n < 8 → twofold (byte (8 * copy + n)) ≡ false
+      single : (copy n : ℕ) → copy < layout .copies → n < 8 → twofold (byte (8 * copy + n)) ≡ false
       single copy n l m = ap twofold (exact (8 * copy + n) (slot-in copy n l m)) ∙ slot-single c (8 * copy + n)
 
-  none-lost : 1 ≤ copies → lowest 8 0 (lostAt copies (λ k. readingOf (byte k))) ≡ Nowhere
-  none-lost one = none-lowest 8 0 (lostAt copies (λ k. readingOf (byte k))) (λ n from to. every-not copies _ 0 one (told n (omega arith)))
+  none-lost : 1 ≤ layout .copies → lowest 8 0 (lostAt layout (λ k. readingOf (byte k))) ≡ Nowhere
+  none-lost one = none-lowest 8 0 (lostAt layout (λ k. readingOf (byte k))) (λ n from to. every-not (layout .copies) _ 0 one (told n (omega arith)))
     where
       told : (n : ℕ) → n < 8 → isLost (readingOf (byte (8 * 0 + n))) ≡ false
       told n m = ap (λ (b : ℕ). isLost (readingOf b)) (exact (8 * 0 + n) (slot-in 0 n one m)) ∙ slot-kept c (8 * 0 + n)
 
-  pub weigh-exact : 1 ≤ copies → weigh copies byte ≡ Good c (pos 0)
+  pub weigh-exact : 1 ≤ layout .copies → weigh layout byte ≡ Good c (pos 0)
   unfolding weigh
-  weigh-exact one = rw (none-twofold, none-lost one, count-read 0 one, count-read (copies - 1) (omega arith)) (decide-same c)
+  weigh-exact one = rw (none-twofold, none-lost one, count-read 0 one, count-read (layout .copies - 1) (omega arith)) (decide-same c)

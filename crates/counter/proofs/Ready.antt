@@ -17,39 +17,40 @@ use native.Mathlib.Omega.{arith}
 use lib.ListN.{length}
 use Rattle.cells.specs.Chip.{Chip, cellAt, Paired, Kept}
 use Rattle.counter.specs.declared.places.Places.{Places}
-use Rattle.counter.specs.Places.{mapCells, lengthGood, placesGood}
+use Rattle.counter.specs.Layout.{Layout, mapCells}
+use Rattle.counter.specs.Places.{lengthGood, placesGood}
 use Rattle.counter.specs.Map.{mapIn, byteAt, pointerOf}
 use Rattle.counter.proofs.Settings.{Placed, good-placed, map-outside}
 use Rattle.counter.proofs.SoundPointers.{Inside}
 use Rattle.counter.proofs.MapBytes.{map-byte, map-same}
 
-abbrev pub pointers : ℕ → Places → Chip → ℕ → ℕ
-pointers copies p s = pointerOf (mapIn copies p (s .cells))
+abbrev pub pointers : Layout → Places → Chip → ℕ → ℕ
+pointers layout p s = pointerOf (mapIn layout p (s .cells))
 
-abbrev pub dataOf : ℕ → Places → Chip → ℕ → ℕ
-dataOf copies p s k = cellAt s (pointers copies p s k)
+abbrev pub dataOf : Layout → Places → Chip → ℕ → ℕ
+dataOf layout p s k = cellAt s (pointers layout p s k)
 
-pub record Ready (copies : ℕ) (p : Places) (s : Chip) : Type 0 where
+pub record Ready (layout : Layout) (p : Places) (s : Chip) : Type 0 where
   pub paired : Paired s
-  pub long : lengthGood copies (length (s .cells)) ≡ true
-  pub good : placesGood copies (length (s .cells)) p ≡ true
+  pub long : lengthGood layout (length (s .cells)) ≡ true
+  pub good : placesGood layout (length (s .cells)) p ≡ true
 
-pub record InMap (copies : ℕ) (p : Places) (a : ℕ) : Type 0 where
+pub record InMap (layout : Layout) (p : Places) (a : ℕ) : Type 0 where
   pub from : p .map ≤ a
-  pub to : a < p .map + mapCells copies
+  pub to : a < p .map + mapCells layout
 
-abbrev pub Own : ℕ → Places → ℕ → Type 0
-Own copies p a = InMap copies p a ⊎ Inside p a
+abbrev pub Own : Layout → Places → ℕ → Type 0
+Own layout p a = InMap layout p a ⊎ Inside p a
 
-module _ {copies : ℕ} {p : Places} {s : Chip} (ready : Ready copies p s) where
-  pub ready-placed : Placed copies (length (s .cells)) p
-  ready-placed = good-placed copies (length (s .cells)) p (ready .good)
+module _ {layout : Layout} {p : Places} {s : Chip} (ready : Ready layout p s) where
+  pub ready-placed : Placed layout (length (s .cells)) p
+  ready-placed = good-placed layout (length (s .cells)) p (ready .good)
 
   pub inside-cell : {a : ℕ} → Inside p a → a < length (s .cells)
   inside-cell i = let h = ready-placed .endFits in let h′ = i .to in omega arith
 
   -- no cell is of the map and of the area
-  pub apart-map : {a : ℕ} → InMap copies p a → Inside p a → ⊥
+  pub apart-map : {a : ℕ} → InMap layout p a → Inside p a → ⊥
   apart-map {a} m i =
       let h = m .from in
       let h′ = m .to in
@@ -59,7 +60,7 @@ module _ {copies : ℕ} {p : Places} {s : Chip} (ready : Ready copies p s) where
   start-fits = let h = ready-placed .large in omega arith
 
   module _ {Place : ℕ → Type 0} {t : Chip} (kept : Kept Place s t) where
-    pub ready-kept : Ready copies p t
+    pub ready-kept : Ready layout p t
     ready-kept =
         record {
           paired = kept .lives-length ∙ ready .paired ∙ sym (kept .cells-length);
@@ -68,11 +69,11 @@ module _ {copies : ℕ} {p : Places} {s : Chip} (ready : Ready copies p s) where
         }
 
     pub byte-kept :
-        (j : ℕ) → j < mapCells copies → (Place (p .map + j) → ⊥)
-        → byteAt (mapIn copies p (t .cells)) j ≡ byteAt (mapIn copies p (s .cells)) j
-    byte-kept j l n = map-byte copies p (t .cells) j l ∙ kept .cell (p .map + j) n ∙ sym (map-byte copies p (s .cells) j l)
+        (j : ℕ) → j < mapCells layout → (Place (p .map + j) → ⊥)
+        → byteAt (mapIn layout p (t .cells)) j ≡ byteAt (mapIn layout p (s .cells)) j
+    byte-kept j l n = map-byte layout p (t .cells) j l ∙ kept .cell (p .map + j) n ∙ sym (map-byte layout p (s .cells) j l)
 
-  pub map-kept : {t : Chip} → Kept (Inside p) s t → mapIn copies p (t .cells) ≡ mapIn copies p (s .cells)
+  pub map-kept : {t : Chip} → Kept (Inside p) s t → mapIn layout p (t .cells) ≡ mapIn layout p (s .cells)
   map-kept {t} kept =
-      map-same copies p (t .cells) (s .cells) (kept .cells-length)
+      map-same layout p (t .cells) (s .cells) (kept .cells-length)
       (λ j l. kept .cell (p .map + j) (λ i. map-outside ready-placed j (p .map + j) l (i .from) (i .to) refl))

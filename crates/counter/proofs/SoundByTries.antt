@@ -7,7 +7,7 @@
 --   sound-differ              of pointers that could be tried, soundness is that they differ
 use Prim.Native.Nat.{ℕ, suc, _+_, _-_, _%_, _≤_, _<_}
 use mathlib.Core.Path.{_≡_, refl, sym, ap, _∙_}
-use mathlib.Core.Bool.{Bool, true, false, not}
+use mathlib.Core.Bool.{Bool, true, false, not, true≢false}
 use native.Mathlib.Decide.{decLt}
 use native.Mathlib.Omega.{arith}
 use lib.Dec.{eqb}
@@ -15,7 +15,8 @@ use borrow.Author.Tests.{eqb-false, ne-eqb, not-true}
 use Rattle.counter.specs.declared.map.Kind.{Kind}
 use Rattle.counter.specs.declared.map.Kind.the-variants.{High, Low}
 use Rattle.counter.specs.declared.places.Places.{Places}
-use Rattle.counter.specs.Slots.{two, slots, kindOf, every}
+use Rattle.counter.specs.Layout.{Layout, two, slots}
+use Rattle.counter.specs.Slots.{kindOf, every}
 use Rattle.counter.specs.Map.{sound}
 use Rattle.counter.specs.Spares.{gapTo, mayTry}
 use Rattle.counter.specs.Inside.{Among, Differ}
@@ -26,9 +27,9 @@ use Rattle.counter.proofs.Gaps.{between-gap}
 use Rattle.counter.proofs.MayTry.{Tried, tried-facts, facts-tried}
 
 unlike : _≡_ {A = Kind} High Low → ⊥
-unlike e = let z : _≡_ {A = ℕ} 0 1 = cc in omega arith
+unlike e = true≢false cc
 
-module _ (copies : ℕ) (p : Places) (pointer : ℕ → ℕ) where
+module _ (layout : Layout) (p : Places) (pointer : ℕ → ℕ) where
   -- each pointer could be tried after those before it
   abbrev pub follows : ℕ → Bool
   follows k = mayTry p (kindOf k) (gapTo k p pointer) (pointer k)
@@ -37,11 +38,11 @@ module _ (copies : ℕ) (p : Places) (pointer : ℕ → ℕ) where
   abbrev pub new : ℕ → Bool
   new j = every j (λ i. not (eqb (pointer i) (pointer j)))
 
-  module _ (tries : every (slots copies) follows ≡ true) where
-    at : (k : ℕ) → k < slots copies → Tried p (kindOf k) (gapTo k p pointer) (pointer k)
+  module _ (tries : every (slots layout) follows ≡ true) where
+    at : (k : ℕ) → k < slots layout → Tried p (kindOf k) (gapTo k p pointer) (pointer k)
     at k l = tried-facts p (kindOf k) (gapTo k p pointer) (pointer k) (every-all _ follows tries k l)
 
-    ordered : (i j : ℕ) → i < slots copies → j < slots copies → kindOf i ≡ High → kindOf j ≡ Low → Dec (i < j) → pointer i < pointer j
+    ordered : (i j : ℕ) → i < slots layout → j < slots layout → kindOf i ≡ High → kindOf j ≡ Low → Dec (i < j) → pointer i < pointer j
     ordered i j l m high low (yes h) =
         let above = at j m .above low in
         let passed = between-gap j p pointer .above i h high in
@@ -55,9 +56,9 @@ module _ (copies : ℕ) (p : Places) (pointer : ℕ → ℕ) where
         earlier (yes g) = g
         earlier (no g) = let same : i ≡ j = omega arith in absurd (unlike (sym high ∙ ap kindOf same ∙ low))
 
-    pub tries-sound : every (slots copies) new ≡ true → sound copies p pointer ≡ true
+    pub tries-sound : every (slots layout) new ≡ true → sound layout p pointer ≡ true
     tries-sound differ =
-        sound-test copies p pointer
+        sound-test layout p pointer
         (record {
           inside = λ k l. record { from = at k l .from; to = at k l .to };
           reach = λ k l. at k l .reach;
@@ -66,12 +67,12 @@ module _ (copies : ℕ) (p : Places) (pointer : ℕ → ℕ) where
         })
 
   pub ordered-tries :
-      ((k : ℕ) → k < slots copies → Inside p (pointer k)) → ((k : ℕ) → k < slots copies → kindOf k ≡ High → pointer k ≤ 255)
-      → ((i j : ℕ) → i < slots copies → j < slots copies → kindOf i ≡ High → kindOf j ≡ Low → pointer i < pointer j)
-      → every (slots copies) follows ≡ true
+      ((k : ℕ) → k < slots layout → Inside p (pointer k)) → ((k : ℕ) → k < slots layout → kindOf k ≡ High → pointer k ≤ 255)
+      → ((i j : ℕ) → i < slots layout → j < slots layout → kindOf i ≡ High → kindOf j ≡ Low → pointer i < pointer j)
+      → every (slots layout) follows ≡ true
   ordered-tries inside reach order = all-every _ follows (λ k l. facts-tried p (kindOf k) (gapTo k p pointer) (pointer k) (tried k l))
     where
-      tried : (k : ℕ) → k < slots copies → Tried p (kindOf k) (gapTo k p pointer) (pointer k)
+      tried : (k : ℕ) → k < slots layout → Tried p (kindOf k) (gapTo k p pointer) (pointer k)
       tried k l =
           record {
             from = inside k l .from;
@@ -83,24 +84,24 @@ module _ (copies : ℕ) (p : Places) (pointer : ℕ → ℕ) where
                 (λ j m high. order j k (omega arith) l high low);
           }
 
-  module _ (test : sound copies p pointer ≡ true) where
-    facts : Sound (slots copies) p pointer
-    facts = test-sound copies p pointer test
+  module _ (test : sound layout p pointer ≡ true) where
+    facts : Sound (slots layout) p pointer
+    facts = test-sound layout p pointer test
 
-    pub sound-tries : every (slots copies) follows ≡ true
+    pub sound-tries : every (slots layout) follows ≡ true
     sound-tries = ordered-tries (facts .inside) (facts .reach) (facts .order)
 
-    pub sound-apart : every (slots copies) new ≡ true
+    pub sound-apart : every (slots layout) new ≡ true
     sound-apart =
         all-every _ new
         (λ j m. all-every j _ (λ i l. ap not (ne-eqb _ _ (facts .apart i j (omega arith) m (λ e. omega arith)))))
 
-  pub sound-differ : every (slots copies) follows ≡ true → every (slots copies) new ≡ sound copies p pointer
-  sound-differ tries = go (every (slots copies) new) refl
+  pub sound-differ : every (slots layout) follows ≡ true → every (slots layout) new ≡ sound layout p pointer
+  sound-differ tries = go (every (slots layout) new) refl
     where
-      go : (b : Bool) → every (slots copies) new ≡ b → every (slots copies) new ≡ sound copies p pointer
+      go : (b : Bool) → every (slots layout) new ≡ b → every (slots layout) new ≡ sound layout p pointer
       go true e = e ∙ sym (tries-sound tries e)
-      go false e = e ∙ sym (never (sound copies p pointer) (λ s. let z : _≡_ {A = ℕ} 0 1 = cc (e, sound-apart s) in omega arith))
+      go false e = e ∙ sym (never (sound layout p pointer) (λ s. true≢false (cc (e, sound-apart s))))
 
 -- the kind of a slot, by its number
 is-high : (k : ℕ) → kindOf k ≡ High → 3 ≤ k % 8

@@ -7,7 +7,7 @@
 --   below-apart               different from every earlier one is different from every other
 use Prim.Native.Nat.{ℕ, _≤_, _<_}
 use mathlib.Core.Path.{_≡_, refl, sym, ap}
-use mathlib.Core.Bool.{true, not}
+use mathlib.Core.Bool.{true, not, true≢false}
 use native.Mathlib.Decide.{decLt}
 use native.Mathlib.Omega.{arith}
 use lib.Dec.{leb, eqb}
@@ -15,7 +15,8 @@ use borrow.Author.Tests.{leb-true, ltb-true, eqb-false, not-true, le-leb, lt-ltb
 use Rattle.counter.specs.declared.map.Kind.{Kind}
 use Rattle.counter.specs.declared.map.Kind.the-variants.{High, Low}
 use Rattle.counter.specs.declared.places.Places.{Places}
-use Rattle.counter.specs.Slots.{slots, kindOf, every}
+use Rattle.counter.specs.Layout.{Layout, slots}
+use Rattle.counter.specs.Slots.{kindOf, every}
 use Rattle.counter.specs.Map.{inArea, reachable, inOrder, sound}
 use Rattle.counter.proofs.RangeTests.{and-true, true-and, every-all, all-every}
 
@@ -41,7 +42,7 @@ inside-test p a h = true-and _ _ (le-leb _ _ (h .from)) (le-leb _ _ (h .to))
 pub test-reach : (kind : Kind) (a : ℕ) → reachable kind a ≡ true → kind ≡ High → a ≤ 255
 unfolding reachable
 test-reach High a h e = leb-true _ _ h
-test-reach Low a h e = let z : _≡_ {A = ℕ} 0 1 = cc in absurd (omega arith)
+test-reach Low a h e = absurd (true≢false cc)
 
 pub reach-test : (kind : Kind) (a : ℕ) → (kind ≡ High → a ≤ 255) → reachable kind a ≡ true
 unfolding reachable
@@ -51,9 +52,9 @@ reach-test Low a h = refl
 test-order : (one other : Kind) (a b : ℕ) → inOrder one other a b ≡ true → one ≡ High → other ≡ Low → a < b
 unfolding inOrder
 test-order High Low a b h e f = ltb-true _ _ h
-test-order High High a b h e f = let z : _≡_ {A = ℕ} 0 1 = cc in absurd (omega arith)
-test-order Low Low a b h e f = let z : _≡_ {A = ℕ} 0 1 = cc in absurd (omega arith)
-test-order Low High a b h e f = let z : _≡_ {A = ℕ} 0 1 = cc in absurd (omega arith)
+test-order High High a b h e f = absurd (true≢false cc)
+test-order Low Low a b h e f = absurd (true≢false cc)
+test-order Low High a b h e f = absurd (true≢false cc)
 
 order-test : (one other : Kind) (a b : ℕ) → (one ≡ High → other ≡ Low → a < b) → inOrder one other a b ≡ true
 unfolding inOrder
@@ -72,27 +73,28 @@ below-apart {n} {pointer} below i j l m d e = go (decLt i j)
     go (yes h) = below i j h m e
     go (no h) = below j i (omega arith) l (sym e)
 
-module _ (copies : ℕ) (p : Places) (pointer : ℕ → ℕ) where
-  pub test-sound : sound copies p pointer ≡ true → Sound (slots copies) p pointer
+module _ (layout : Layout) (p : Places) (pointer : ℕ → ℕ) where
+  pub test-sound : sound layout p pointer ≡ true → Sound (slots layout) p pointer
   unfolding sound
   test-sound h =
-      let h₁ = and-true (every (slots copies) (λ k. inArea p (pointer k))) _ h in
-      let h₂ = and-true (every (slots copies) (λ k. reachable (kindOf k) (pointer k))) _ (h₁ .1) in
-      let h₃ = and-true (every (slots copies) (λ j. every j (λ i. not (eqb (pointer i) (pointer j))))) _ (h₂ .1) in
+      let h₁ = and-true _ (every (slots layout) (λ i. every (slots layout) (λ j. inOrder (kindOf i) (kindOf j) (pointer i) (pointer j)))) h in
+      let h₂ = and-true _ (every (slots layout) (λ j. every j (λ i. not (eqb (pointer i) (pointer j))))) (h₁ .0) in
+      let h₃ = and-true (every (slots layout) (λ k. inArea p (pointer k))) _ (h₂ .0) in
       record {
-        inside = λ k l. test-inside p (pointer k) (every-all _ _ (h₁ .0) k l);
-        reach = λ k l. test-reach (kindOf k) (pointer k) (every-all _ _ (h₂ .0) k l);
-        apart = λ i j l m d e. below-apart {pointer = pointer} (λ i j l m. eqb-false _ _ (not-true _ (every-all _ _ (every-all _ _ (h₃ .0) j m) i l))) i j l m d e;
-        order = λ i j l m. test-order (kindOf i) (kindOf j) (pointer i) (pointer j) (every-all _ _ (every-all _ _ (h₃ .1) i l) j m);
+        inside = λ k l. test-inside p (pointer k) (every-all _ _ (h₃ .0) k l);
+        reach = λ k l. test-reach (kindOf k) (pointer k) (every-all _ _ (h₃ .1) k l);
+        apart = λ i j l m d e. below-apart {pointer = pointer} (λ i j l m. eqb-false _ _ (not-true _ (every-all _ _ (every-all _ _ (h₂ .1) j m) i l))) i j l m d e;
+        order = λ i j l m. test-order (kindOf i) (kindOf j) (pointer i) (pointer j) (every-all _ _ (every-all _ _ (h₁ .1) i l) j m);
       }
 
-  pub sound-test : Sound (slots copies) p pointer → sound copies p pointer ≡ true
+  pub sound-test : Sound (slots layout) p pointer → sound layout p pointer ≡ true
   unfolding sound
   sound-test s =
-      true-and _ _ (all-every _ _ (λ k l. inside-test p (pointer k) (s .inside k l)))
-      (true-and _ _ (all-every _ _ (λ k l. reach-test (kindOf k) (pointer k) (s .reach k l)))
-      (true-and _ _ (all-every _ _ (λ j m. all-every j _ (λ i l. ap not (ne-eqb (pointer i) (pointer j) (s .apart i j (omega arith) m (λ e. omega arith))))))
-      (all-every _ _ (λ i l. all-every _ _ (λ j m. order-test (kindOf i) (kindOf j) (pointer i) (pointer j) (s .order i j l m))))))
+      true-and _ _
+      (true-and _ _
+      (true-and _ _ (all-every _ _ (λ k l. inside-test p (pointer k) (s .inside k l))) (all-every _ _ (λ k l. reach-test (kindOf k) (pointer k) (s .reach k l))))
+      (all-every _ _ (λ j m. all-every j _ (λ i l. ap not (ne-eqb (pointer i) (pointer j) (s .apart i j (omega arith) m (λ e. omega arith)))))))
+      (all-every _ _ (λ i l. all-every _ _ (λ j m. order-test (kindOf i) (kindOf j) (pointer i) (pointer j) (s .order i j l m))))
 
 pub sound-none : (p : Places) (pointer : ℕ → ℕ) → Sound 0 p pointer
 sound-none p pointer =

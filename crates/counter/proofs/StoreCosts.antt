@@ -22,7 +22,8 @@ use Rattle.counter.specs.declared.places.Places.{Places}
 use Rattle.counter.specs.declared.spares.Gap.{Gap}
 use Rattle.counter.specs.declared.verdict.Work.{Work}
 use Rattle.counter.specs.declared.verdict.Work.the-variants.{Done}
-use Rattle.counter.specs.Slots.{slots, kindOf}
+use Rattle.counter.specs.Layout.{Layout, slots}
+use Rattle.counter.specs.Slots.{kindOf}
 use Rattle.counter.specs.Places.{fitted}
 use Rattle.counter.specs.Map.{offsetOf, pointerBytes, sound}
 use Rattle.counter.specs.Verdict.{_andThen_}
@@ -62,56 +63,56 @@ pointer-cost p k a s =
 pub pointer-few : (p : Places) (k a : ℕ) (s : Chip) {v : Seen Work} → v ≡ view (putPointer p k a s) → (v .writes ≤ 2) × (v .tried ≡ 0)
 pointer-few p k a s e = let cost = pointer-cost p k a s in rw e (cost .asks, omega (arith, cost .tries))
 
-module _ {copies : ℕ} {p : Places} {s : Chip} (ready : Ready copies p s) (k b : ℕ) where
-  tries-cost : Costs 4096 4096 (tries copies p k b s)
+module _ {layout : Layout} {p : Places} {s : Chip} (ready : Ready layout p s) (k b : ℕ) where
+  tries-cost : Costs 4096 4096 (tries layout p k b s)
   tries-cost =
-      let few : (length (tries copies p k b s .log) ≤ tries copies p k b s .tried) × (tries copies p k b s .tried ≤ room (gapAt copies p s)) = tries-few k (gapAt copies p s) b s refl in
-      let end = between-map copies p (pointers copies p s) .end in
+      let few : (length (tries layout p k b s .log) ≤ tries layout p k b s .tried) × (tries layout p k b s .tried ≤ room (gapAt layout p s)) = tries-few k (gapAt layout p s) b s refl in
+      let end = between-map layout p (pointers layout p s) .end in
       let placed = ready-placed ready in
       let short = ready-short ready in
       record { asks = omega arith; tries = omega arith }
 
-  move-cost : Costs 4098 4096 (moveSlot copies p k b s)
-  move-cost = go (tries copies p k b s .answer) refl
+  move-cost : Costs 4098 4096 (moveSlot layout p k b s)
+  move-cost = go (tries layout p k b s .answer) refl
     where
-      go : (f : Found) → tries copies p k b s .answer ≡ f → Costs 4098 4096 (moveSlot copies p k b s)
-      go Nowhere h = rw (move-missing copies p k b s h) (record { asks = rw length-append (omega (arith, tries-cost)); tries = omega (arith, tries-cost) })
+      go : (f : Found) → tries layout p k b s .answer ≡ f → Costs 4098 4096 (moveSlot layout p k b s)
+      go Nowhere h = rw (move-missing layout p k b s h) (record { asks = rw length-append (omega (arith, tries-cost)); tries = omega (arith, tries-cost) })
       go (At a) h =
-          let pointer = pointer-cost p k a (tries copies p k b s .after) in
-          rw (move-landing copies p k b s a h) (record { asks = rw length-append (omega (arith, tries-cost)); tries = omega (arith, tries-cost) })
+          let pointer = pointer-cost p k a (tries layout p k b s .after) in
+          rw (move-landing layout p k b s a h) (record { asks = rw length-append (omega (arith, tries-cost)); tries = omega (arith, tries-cost) })
 
-  pub move-few : {v : Seen Work} → v ≡ view (moveSlot copies p k b s) → (v .writes ≤ 4098) × (v .tried ≤ 4096)
+  pub move-few : {v : Seen Work} → v ≡ view (moveSlot layout p k b s) → (v .writes ≤ 4098) × (v .tried ≤ 4096)
   move-few e = rw e (move-cost .asks, move-cost .tries)
 
-module _ {copies : ℕ} {p : Places} {s : Chip} (ready : Ready copies p s) (k b : ℕ) where
-  slot-cost : Costs 4099 4096 (storeSlot copies p k b s)
-  slot-cost = go (first copies p k b s .answer) refl
+module _ {layout : Layout} {p : Places} {s : Chip} (ready : Ready layout p s) (k b : ℕ) where
+  slot-cost : Costs 4099 4096 (storeSlot layout p k b s)
+  slot-cost = go (first layout p k b s .answer) refl
     where
-      go : (t : Bool) → first copies p k b s .answer ≡ t → Costs 4099 4096 (storeSlot copies p k b s)
+      go : (t : Bool) → first layout p k b s .answer ≡ t → Costs 4099 4096 (storeSlot layout p k b s)
       go true h =
-          let put = put-cost (pointers copies p s k) b s in
-          let none = put-tried (pointers copies p s k) b s in
-          rw (slot-held copies p k b s h) (record { asks = omega arith; tries = omega arith })
+          let put = put-cost (pointers layout p s k) b s in
+          let none = put-tried (pointers layout p s k) b s in
+          rw (slot-held layout p k b s h) (record { asks = omega arith; tries = omega arith })
       go false h =
-          let put = put-cost (pointers copies p s k) b s in
-          let none = put-tried (pointers copies p s k) b s in
-          let moved = move-cost (ready-kept ready (put-laws (pointers copies p s k) b s (ready .paired) .kept)) k b in
-          rw (slot-failed copies p k b s h) (record { asks = rw length-append (omega arith); tries = omega arith })
+          let put = put-cost (pointers layout p s k) b s in
+          let none = put-tried (pointers layout p s k) b s in
+          let moved = move-cost (ready-kept ready (put-laws (pointers layout p s k) b s (ready .paired) .kept)) k b in
+          rw (slot-failed layout p k b s h) (record { asks = rw length-append (omega arith); tries = omega arith })
 
-  pub slot-few : {v : Seen Work} → v ≡ view (storeSlot copies p k b s) → (v .writes ≤ 4099) × (v .tried ≤ 4096)
+  pub slot-few : {v : Seen Work} → v ≡ view (storeSlot layout p k b s) → (v .writes ≤ 4099) × (v .tried ≤ 4096)
   slot-few e = rw e (slot-cost .asks, slot-cost .tries)
 
-module _ (copies : ℕ) (p : Places) (c : ℕ) where
-  from-cost : (n k : ℕ) (s : Chip) → k + n ≤ slots copies → Ready copies p s → Sound (slots copies) p (pointers copies p s) → Costs (4099 * n) (4096 * n) (storeFrom n k copies p c s)
+module _ (layout : Layout) (p : Places) (c : ℕ) where
+  from-cost : (n k : ℕ) (s : Chip) → k + n ≤ slots layout → Ready layout p s → Sound (slots layout) p (pointers layout p s) → Costs (4099 * n) (4096 * n) (storeFrom n k layout p c s)
   unfolding storeFrom
   from-cost zero k s fits ready well = record { asks = omega arith; tries = omega arith }
   from-cost (suc n) k s fits ready well =
       go (laws .ended) (λ e. from-cost n (k + 1) (r .after) (omega arith) (ready-kept ready (within-kept (laws .within))) (laws .settles e .sound))
     where
       r : Run Work
-      r = storeSlot copies p k (slotCode c k) s
+      r = storeSlot layout p k (slotCode c k) s
 
-      laws : Moves copies p k (slotCode c k) (change (dataOf copies p s k) (slotCode c k)) s r
+      laws : Moves layout p k (slotCode c k) (change (dataOf layout p s k) (slotCode c k)) s r
       laws = slot-laws ready well k (omega arith) (slotCode c k)
 
       slot : Costs 4099 4096 r
@@ -120,13 +121,13 @@ module _ (copies : ℕ) (p : Places) (c : ℕ) where
       few : Costs (4099 * suc n) (4096 * suc n) r
       few = record { asks = omega (arith, slot); tries = omega (arith, slot) }
 
-      go : Ended (r .answer) → (r .answer ≡ Done → Costs (4099 * n) (4096 * n) (storeFrom n (k + 1) copies p c (r .after))) → Costs (4099 * suc n) (4096 * suc n) (r andThen storeFrom n (k + 1) copies p c)
+      go : Ended (r .answer) → (r .answer ≡ Done → Costs (4099 * n) (4096 * n) (storeFrom n (k + 1) layout p c (r .after))) → Costs (4099 * suc n) (4096 * suc n) (r andThen storeFrom n (k + 1) layout p c)
       go (done e) rest = let others = rest e in rw (done-then r _ e) (record { asks = rw length-append (omega (arith, slot)); tries = omega (arith, slot) })
       go (roomless j e) rest = rw (stopped-then r _ _ e) few
       go (unmapped a e) rest = rw (stopped-then r _ _ e) few
 
-  pub store-few : (s : Chip) {v : Seen Work} → fitted copies p s ≡ true → sound copies p (pointers copies p s) ≡ true → v ≡ view (store copies p c s) → (v .writes ≤ 4099 * slots copies) × (v .tried ≤ 4096 * slots copies)
+  pub store-few : (s : Chip) {v : Seen Work} → fitted layout p s ≡ true → sound layout p (pointers layout p s) ≡ true → v ≡ view (store layout p c s) → (v .writes ≤ 4099 * slots layout) × (v .tried ≤ 4096 * slots layout)
   unfolding store
   store-few s good well e =
-      let all = from-cost (slots copies) 0 s (omega arith) (fitted-ready good) (test-sound copies p _ well) in
+      let all = from-cost (slots layout) 0 s (omega arith) (fitted-ready good) (test-sound layout p _ well) in
       rw e (all .asks, all .tries)

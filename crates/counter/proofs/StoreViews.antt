@@ -9,7 +9,7 @@
 --   storeLeft, store-left-all, store-left-none, store-left-done, store-left-stopped  what is left of a store
 use Prim.Native.Nat.{ℕ, suc, _+_, _-_, _/_, _%_, _≤_, _<_}
 use mathlib.Core.Path.{_≡_, sym, ap, _∙_}
-use mathlib.Core.Bool.{Bool, true, false}
+use mathlib.Core.Bool.{Bool, true, false, true≢false}
 use mathlib.Core.List.{[], _∷_}
 use native.Mathlib.Nat.{zero-add, add-zero, sub-zero, sub-self}
 use native.Mathlib.Omega.{arith}
@@ -29,7 +29,8 @@ use Rattle.counter.specs.declared.spares.Gap.{Gap}
 use Rattle.counter.specs.declared.verdict.Work.{Work}
 use Rattle.counter.specs.declared.verdict.Work.the-variants.{Done, Stopped}
 use Rattle.counter.specs.declared.verdict.Refusal.the-variants.{NoSpare}
-use Rattle.counter.specs.Slots.{slots, kindOf}
+use Rattle.counter.specs.Layout.{Layout, slots}
+use Rattle.counter.specs.Slots.{kindOf}
 use Rattle.counter.specs.Places.{fitted}
 use Rattle.counter.specs.Map.{offsetOf, pointerBytes, reachable, sound}
 use Rattle.counter.specs.Verdict.{_andThen_}
@@ -64,10 +65,10 @@ pub record GapFits (size : ℕ) (g : Gap) : Type 0 where
   pub ordered : g .high ≤ g .low
   pub inside : g .low ≤ size
 
-pub gap-fits : {copies : ℕ} {p : Places} {s : Chip} → Ready copies p s → Sound (slots copies) p (pointers copies p s) → GapFits (length (s .cells)) (gapAt copies p s)
-gap-fits {copies} {p} {s} ready sound =
+pub gap-fits : {layout : Layout} {p : Places} {s : Chip} → Ready layout p s → Sound (slots layout) p (pointers layout p s) → GapFits (length (s .cells)) (gapAt layout p s)
+gap-fits {layout} {p} {s} ready sound =
     let placed = ready-placed ready in
-    let gap = between-map copies p (pointers copies p s) in
+    let gap = between-map layout p (pointers layout p s) in
     let from = gap .start in
     let to = gap .end in
     record {
@@ -79,67 +80,67 @@ gap-fits {copies} {p} {s} ready sound =
 
 -- ## A byte moved to a spare
 
-pub record SpareHeld (copies : ℕ) (p : Places) (k a : ℕ) (s : Chip) : Type 0 where
-  pub ready : Ready copies p s
+pub record SpareHeld (layout : Layout) (p : Places) (k a : ℕ) (s : Chip) : Type 0 where
+  pub ready : Ready layout p s
   pub small : a < 65536
   pub reach : reachable (kindOf k) a ≡ true
 
-module _ (copies : ℕ) (p : Places) (k b : ℕ) (s : Chip) {g : Gap} (here : g ≡ gapAt copies p s) {v : Seen Found} (e : v ≡ view (trySpares k g b s)) where
-  said : v ≡ view (tries copies p k b s)
+module _ (layout : Layout) (p : Places) (k b : ℕ) (s : Chip) {g : Gap} (here : g ≡ gapAt layout p s) {v : Seen Found} (e : v ≡ view (trySpares k g b s)) where
+  said : v ≡ view (tries layout p k b s)
   said = rw here at e
 
-  pub spare-held : {a : ℕ} → Ready copies p s → v .answer ≡ At a → SpareHeld copies p k a (v .after)
+  pub spare-held : {a : ℕ} → Ready layout p s → v .answer ≡ At a → SpareHeld layout p k a (v .after)
   spare-held {a} ready h = go (laws .trying)
     where
-      laws : TryLaws k (gapAt copies p s) b s
-      laws = try-laws k (gapAt copies p s) b s (ready .paired)
+      laws : TryLaws k (gapAt layout p s) b s
+      laws = try-laws k (gapAt layout p s) b s (ready .paired)
 
-      kept : Ready copies p (v .after)
-      kept = rw (said-after (tries copies p k b s) said) (ready-kept ready (within-kept (laws .within)))
+      kept : Ready layout p (v .after)
+      kept = rw (said-after (tries layout p k b s) said) (ready-kept ready (within-kept (laws .within)))
 
-      go : Trying k (gapAt copies p s) b s → SpareHeld copies p k a (v .after)
-      go (missing m) = let z : _≡_ {A = ℕ} 0 1 = let q = m .nowhere in cc in absurd (omega arith)
+      go : Trying k (gapAt layout p s) b s → SpareHeld layout p k a (v .after)
+      go (missing m) = let q = m .nowhere in absurd (true≢false cc)
       go (landing m) =
           let same : m .place ≡ a = let q = m .here in cc in
-          let inside = free-spare (between-map copies p (pointers copies p s)) (m .free) .inside .to in
+          let inside = free-spare (between-map layout p (pointers layout p s)) (m .free) .inside .to in
           let placed = ready-placed ready in
           let short = ready-short ready in
           record { ready = kept; small = omega arith; reach = rw same at (reach-test (kindOf k) (m .place) (m .free .reach)) }
 
-  pub move-nowhere : v .answer ≡ Nowhere → view (moveSlot copies p k b s) ≡ seen (Stopped (NoSpare k)) (v .writes) (v .tried) (v .after)
+  pub move-nowhere : v .answer ≡ Nowhere → view (moveSlot layout p k b s) ≡ seen (Stopped (NoSpare k)) (v .writes) (v .tried) (v .after)
   move-nowhere h =
-      ap view (move-missing copies p k b s (said-answer (tries copies p k b s) said h))
-      ∙ said-then (tries copies p k b s) said (still (Stopped (NoSpare k)))
+      ap view (move-missing layout p k b s (said-answer (tries layout p k b s) said h))
+      ∙ said-then (tries layout p k b s) said (still (Stopped (NoSpare k)))
       ∙ simp add-zero
 
-  pub move-at : {a : ℕ} → v .answer ≡ At a → {u : Seen Work} → u ≡ view (putPointer p k a (v .after)) → view (moveSlot copies p k b s) ≡ plus (v .writes) (v .tried) u
+  pub move-at : {a : ℕ} → v .answer ≡ At a → {u : Seen Work} → u ≡ view (putPointer p k a (v .after)) → view (moveSlot layout p k b s) ≡ plus (v .writes) (v .tried) u
   move-at {a} h f =
-      ap view (move-landing copies p k b s a (said-answer (tries copies p k b s) said h))
-      ∙ said-then (tries copies p k b s) said (putPointer p k a)
+      ap view (move-landing layout p k b s a (said-answer (tries layout p k b s) said h))
+      ∙ said-then (tries layout p k b s) said (putPointer p k a)
       ∙ ap (plus _ _) (sym f)
 
 -- ## A byte put at its slot's cell
 
-module _ (copies : ℕ) (p : Places) (k b : ℕ) (s : Chip) {at : ℕ} (here : at ≡ pointers copies p s k) {v : Seen Bool} (e : v ≡ view (putAt at b s)) where
-  first-said : v ≡ view (first copies p k b s)
+module _ (layout : Layout) (p : Places) (k b : ℕ) (s : Chip) {at : ℕ} (here : at ≡ pointers layout p s k) {v : Seen Bool} (e : v ≡ view (putAt at b s)) where
+  first-said : v ≡ view (first layout p k b s)
   first-said = rw here at e
 
-  pub slot-put : v .answer ≡ true → view (storeSlot copies p k b s) ≡ seen Done (v .writes) 0 (v .after)
+  pub slot-put : v .answer ≡ true → view (storeSlot layout p k b s) ≡ seen Done (v .writes) 0 (v .after)
   slot-put h =
-      ap view (slot-held copies p k b s (said-answer (first copies p k b s) first-said h))
-      ∙ said-giving (first copies p k b s) first-said Done
+      ap view (slot-held layout p k b s (said-answer (first layout p k b s) first-said h))
+      ∙ said-giving (first layout p k b s) first-said Done
       ∙ rw (ap (λ (w : Seen Bool). w .tried) first-said, put-tried)
 
   -- a put that fails leaves the chip as it was
   pub slot-same : Paired s → v .answer ≡ false → v .after ≡ s
   slot-same paired h =
-      let r = first copies p k b s in
-      said-after r first-said ∙ ap (λ (q : Run Bool). q .after) (put-laws (pointers copies p s k) b s paired .unchanged (said-answer r first-said h))
+      let r = first layout p k b s in
+      said-after r first-said ∙ ap (λ (q : Run Bool). q .after) (put-laws (pointers layout p s k) b s paired .unchanged (said-answer r first-said h))
 
-  pub slot-moved : v .answer ≡ false → {u : Seen Work} → u ≡ view (moveSlot copies p k b (v .after)) → view (storeSlot copies p k b s) ≡ plus (v .writes) 0 u
+  pub slot-moved : v .answer ≡ false → {u : Seen Work} → u ≡ view (moveSlot layout p k b (v .after)) → view (storeSlot layout p k b s) ≡ plus (v .writes) 0 u
   slot-moved h {u} f =
-      ap view (slot-failed copies p k b s (said-answer (first copies p k b s) first-said h))
-      ∙ said-then (first copies p k b s) first-said (moveSlot copies p k b)
+      ap view (slot-failed layout p k b s (said-answer (first layout p k b s) first-said h))
+      ∙ said-then (first layout p k b s) first-said (moveSlot layout p k b)
       ∙ ap (plus _ _) (sym f)
       ∙ ap (λ (t : ℕ). plus (v .writes) t u) (ap (λ (w : Seen Bool). w .tried) first-said ∙ put-tried _ _ _)
 
@@ -147,50 +148,50 @@ module _ (copies : ℕ) (p : Places) (k b : ℕ) (s : Chip) {at : ℕ} (here : a
 
 -- work inside map and area that leaves a sound map leaves what the next piece asks
 settled :
-    (copies : ℕ) (p : Places) (s : Chip) (r : Run Work) {v : Seen Work}
-    → Ready copies p s
-    → Within (Own copies p) s r
-    → Sound (slots copies) p (pointers copies p (r .after))
+    (layout : Layout) (p : Places) (s : Chip) (r : Run Work) {v : Seen Work}
+    → Ready layout p s
+    → Within (Own layout p) s r
+    → Sound (slots layout) p (pointers layout p (r .after))
     → v ≡ view r
-    → (fitted copies p (v .after) ≡ true) × (sound copies p (pointers copies p (v .after)) ≡ true)
-settled copies p s r ready within well e = rw (said-after r e) (ready-fitted (ready-kept ready (within-kept within)), sound-test copies p _ well)
+    → (fitted layout p (v .after) ≡ true) × (sound layout p (pointers layout p (v .after)) ≡ true)
+settled layout p s r ready within well e = rw (said-after r e) (ready-fitted (ready-kept ready (within-kept within)), sound-test layout p _ well)
 
-module _ (copies : ℕ) (p : Places) (s : Chip) {v : Seen Work} (good : fitted copies p s ≡ true) (well : sound copies p (pointers copies p s) ≡ true) where
-  pub slot-settled : (k b : ℕ) → k < slots copies → v ≡ view (storeSlot copies p k b s) → stopped (v .answer) ≡ false → (fitted copies p (v .after) ≡ true) × (sound copies p (pointers copies p (v .after)) ≡ true)
+module _ (layout : Layout) (p : Places) (s : Chip) {v : Seen Work} (good : fitted layout p s ≡ true) (well : sound layout p (pointers layout p s) ≡ true) where
+  pub slot-settled : (k b : ℕ) → k < slots layout → v ≡ view (storeSlot layout p k b s) → stopped (v .answer) ≡ false → (fitted layout p (v .after) ≡ true) × (sound layout p (pointers layout p (v .after)) ≡ true)
   slot-settled k b l e h =
-      let laws = slot-laws (fitted-ready good) (test-sound copies p _ well) k l b in
-      settled copies p s _ (fitted-ready good) (laws .within) (laws .settles (said-answer (storeSlot copies p k b s) e (stopped-not (v .answer) h)) .sound) e
+      let laws = slot-laws (fitted-ready good) (test-sound layout p _ well) k l b in
+      settled layout p s _ (fitted-ready good) (laws .within) (laws .settles (said-answer (storeSlot layout p k b s) e (stopped-not (v .answer) h)) .sound) e
 
-  pub store-settled : (c : ℕ) → v ≡ view (store copies p c s) → stopped (v .answer) ≡ false → (fitted copies p (v .after) ≡ true) × (sound copies p (pointers copies p (v .after)) ≡ true)
+  pub store-settled : (c : ℕ) → v ≡ view (store layout p c s) → stopped (v .answer) ≡ false → (fitted layout p (v .after) ≡ true) × (sound layout p (pointers layout p (v .after)) ≡ true)
   store-settled c e h =
-      let laws = store-laws copies p c s (fitted-ready good) (test-sound copies p _ well) in
-      settled copies p s _ (fitted-ready good) (laws .within) (laws .stored (said-answer (store copies p c s) e (stopped-not (v .answer) h)) .sound) e
+      let laws = store-laws layout p c s (fitted-ready good) (test-sound layout p _ well) in
+      settled layout p s _ (fitted-ready good) (laws .within) (laws .stored (said-answer (store layout p c s) e (stopped-not (v .answer) h)) .sound) e
 
 -- what is left of a store when the slots below k hold their codes
-abbrev pub storeLeft : ℕ → Places → ℕ → ℕ → Chip → Run Work
-storeLeft copies p c k s = storeFrom (slots copies - k) k copies p c s
+abbrev pub storeLeft : Layout → Places → ℕ → ℕ → Chip → Run Work
+storeLeft layout p c k s = storeFrom (slots layout - k) k layout p c s
 
-module _ (copies : ℕ) (p : Places) (c : ℕ) where
+module _ (layout : Layout) (p : Places) (c : ℕ) where
   -- at first, all of it
-  pub store-left-all : (s : Chip) → view (store copies p c s) ≡ plus 0 0 (view (storeLeft copies p c 0 s))
+  pub store-left-all : (s : Chip) → view (store layout p c s) ≡ plus 0 0 (view (storeLeft layout p c 0 s))
   unfolding store
   store-left-all s = simp (sub-zero, zero-add)
 
   -- at the end, nothing
-  pub store-left-none : (w t k : ℕ) (s : Chip) → k ≡ slots copies → plus w t (view (storeLeft copies p c k s)) ≡ seen Done w t s
+  pub store-left-none : (w t k : ℕ) (s : Chip) → k ≡ slots layout → plus w t (view (storeLeft layout p c k s)) ≡ seen Done w t s
   unfolding storeFrom
   store-left-none w t k s e = rw (e, sub-self) (simp add-zero)
 
-  module _ (k : ℕ) {b : ℕ} (s : Chip) (inside : k < slots copies) (here : b ≡ slotCode c k) {v : Seen Work} (e : v ≡ view (storeSlot copies p k b s)) where
+  module _ (k : ℕ) {b : ℕ} (s : Chip) (inside : k < slots layout) (here : b ≡ slotCode c k) {v : Seen Work} (e : v ≡ view (storeSlot layout p k b s)) where
     -- there is a slot left
-    one-more : storeLeft copies p c k s ≡ storeSlot copies p k b s andThen storeLeft copies p c (k + 1)
+    one-more : storeLeft layout p c k s ≡ storeSlot layout p k b s andThen storeLeft layout p c (k + 1)
     unfolding storeFrom
-    one-more = let more : slots copies - k ≡ suc (slots copies - (k + 1)) = omega arith in rw (more, here)
+    one-more = let more : slots layout - k ≡ suc (slots layout - (k + 1)) = omega arith in rw (more, here)
 
     -- slot k was done
-    pub store-left-done : stopped (v .answer) ≡ false → view (storeLeft copies p c k s) ≡ plus (v .writes) (v .tried) (view (storeLeft copies p c (k + 1) (v .after)))
-    store-left-done h = ap view one-more ∙ said-done (storeSlot copies p k b s) (storeLeft copies p c (k + 1)) e h
+    pub store-left-done : stopped (v .answer) ≡ false → view (storeLeft layout p c k s) ≡ plus (v .writes) (v .tried) (view (storeLeft layout p c (k + 1) (v .after)))
+    store-left-done h = ap view one-more ∙ said-done (storeSlot layout p k b s) (storeLeft layout p c (k + 1)) e h
 
     -- slot k stopped
-    pub store-left-stopped : stopped (v .answer) ≡ true → view (storeLeft copies p c k s) ≡ v
-    store-left-stopped h = ap view one-more ∙ said-stopped (storeSlot copies p k b s) (storeLeft copies p c (k + 1)) e h
+    pub store-left-stopped : stopped (v .answer) ≡ true → view (storeLeft layout p c k s) ≡ v
+    store-left-stopped h = ap view one-more ∙ said-stopped (storeSlot layout p k b s) (storeLeft layout p c (k + 1)) e h

@@ -16,7 +16,7 @@ use Rattle.counter.specs.declared.places.Places.{Places}
 use Rattle.counter.specs.declared.verdict.Work.{Work}
 use Rattle.counter.specs.declared.verdict.Work.the-variants.{Done, Stopped}
 use Rattle.counter.specs.declared.verdict.Refusal.{Refusal}
-use Rattle.counter.specs.Slots.{slots}
+use Rattle.counter.specs.Layout.{Layout, slots}
 use Rattle.counter.specs.Map.{mapIn, marked}
 use Rattle.counter.specs.Verdict.{_andThen_}
 use Rattle.counter.specs.Store.{slotCode, storeSlot, storeFrom, store}
@@ -48,21 +48,21 @@ changes-same (suc n) k f g code same =
     ap₂ _+_ (ap (λ (x : ℕ). change x (code k)) (same k (omega arith) (omega arith))) (changes-same n (k + 1) f g code (λ j l u. same j (omega arith) (omega arith)))
 
 -- the slots hold their codes, the others what they held, in a sound map; and what was asked has been paid for
-pub record Stored (copies : ℕ) (p : Places) (n k c : ℕ) (s : Chip) (r : Run Work) : Type 0 where
-  pub sound : Sound (slots copies) p (pointers copies p (r .after))
-  pub held : (j : ℕ) → k ≤ j → j < k + n → dataOf copies p (r .after) j ≡ slotCode c j
-  pub kept : (j : ℕ) → j < k → dataOf copies p (r .after) j ≡ dataOf copies p s j
-  pub paid : askedIn (p .start) (p .end) (r .log) + roomOf copies p (r .after) ≤ changes n k (dataOf copies p s) (slotCode c) + roomOf copies p s
+pub record Stored (layout : Layout) (p : Places) (n k c : ℕ) (s : Chip) (r : Run Work) : Type 0 where
+  pub sound : Sound (slots layout) p (pointers layout p (r .after))
+  pub held : (j : ℕ) → k ≤ j → j < k + n → dataOf layout p (r .after) j ≡ slotCode c j
+  pub kept : (j : ℕ) → j < k → dataOf layout p (r .after) j ≡ dataOf layout p s j
+  pub paid : askedIn (p .start) (p .end) (r .log) + roomOf layout p (r .after) ≤ changes n k (dataOf layout p s) (slotCode c) + roomOf layout p s
 
-pub record Stores (copies : ℕ) (p : Places) (n k c : ℕ) (s : Chip) (r : Run Work) : Type 0 where
-  pub within : Within (Own copies p) s r
-  pub mark : marked (mapIn copies p (r .after .cells)) ≡ marked (mapIn copies p (s .cells))
-  pub bounded : askedIn (p .start) (p .end) (r .log) ≤ changes n k (dataOf copies p s) (slotCode c) + roomOf copies p s
-  pub stored : r .answer ≡ Done → Stored copies p n k c s r
+pub record Stores (layout : Layout) (p : Places) (n k c : ℕ) (s : Chip) (r : Run Work) : Type 0 where
+  pub within : Within (Own layout p) s r
+  pub mark : marked (mapIn layout p (r .after .cells)) ≡ marked (mapIn layout p (s .cells))
+  pub bounded : askedIn (p .start) (p .end) (r .log) ≤ changes n k (dataOf layout p s) (slotCode c) + roomOf layout p s
+  pub stored : r .answer ≡ Done → Stored layout p n k c s r
   pub ended : Ended (r .answer)
 
-module _ (copies : ℕ) (p : Places) (c : ℕ) where
-  none-laws : (k : ℕ) (s : Chip) → Sound (slots copies) p (pointers copies p s) → Stores copies p 0 k c s (still Done s)
+module _ (layout : Layout) (p : Places) (c : ℕ) where
+  none-laws : (k : ℕ) (s : Chip) → Sound (slots layout) p (pointers layout p s) → Stores layout p 0 k c s (still Done s)
   unfolding changes
   none-laws k s sound =
       let z = asked-none (p .start) (p .end) in
@@ -77,8 +77,8 @@ module _ (copies : ℕ) (p : Places) (c : ℕ) where
   -- a slot that stops ends the storing
   stopped-laws :
       (n k : ℕ) (s : Chip) (r : Run Work) (why : Refusal) → r .answer ≡ Stopped why
-      → Moves copies p k (slotCode c k) (change (dataOf copies p s k) (slotCode c k)) s r
-      → Stores copies p (suc n) k c s r
+      → Moves layout p k (slotCode c k) (change (dataOf layout p s k) (slotCode c k)) s r
+      → Stores layout p (suc n) k c s r
   unfolding changes
   stopped-laws n k s r why e m =
       record {
@@ -91,9 +91,9 @@ module _ (copies : ℕ) (p : Places) (c : ℕ) where
 
   -- a slot that is done, and then the rest
   done-laws :
-      (n k : ℕ) (s : Chip) (r q : Run Work) → k + suc n ≤ slots copies
-      → Moves copies p k (slotCode c k) (change (dataOf copies p s k) (slotCode c k)) s r → r .answer ≡ Done
-      → Stores copies p n (k + 1) c (r .after) q → Stores copies p (suc n) k c s (r then q)
+      (n k : ℕ) (s : Chip) (r q : Run Work) → k + suc n ≤ slots layout
+      → Moves layout p k (slotCode c k) (change (dataOf layout p s k) (slotCode c k)) s r → r .answer ≡ Done
+      → Stores layout p n (k + 1) c (r .after) q → Stores layout p (suc n) k c s (r then q)
   unfolding changes
   done-laws n k s r q fits m e rest =
       record {
@@ -104,16 +104,16 @@ module _ (copies : ℕ) (p : Places) (c : ℕ) where
         ended = rest .ended;
       }
     where
-      t : Settles copies p k (slotCode c k) (change (dataOf copies p s k) (slotCode c k)) s r
+      t : Settles layout p k (slotCode c k) (change (dataOf layout p s k) (slotCode c k)) s r
       t = m .settles e
 
-      later : changes n (k + 1) (dataOf copies p (r .after)) (slotCode c) ≡ changes n (k + 1) (dataOf copies p s) (slotCode c)
+      later : changes n (k + 1) (dataOf layout p (r .after)) (slotCode c) ≡ changes n (k + 1) (dataOf layout p s) (slotCode c)
       later = changes-same n (k + 1) _ _ (slotCode c) (λ j l u. t .kept j (omega arith) (λ q. omega arith))
 
       asked : askedIn (p .start) (p .end) (r .log ++ q .log) ≡ askedIn (p .start) (p .end) (r .log) + askedIn (p .start) (p .end) (q .log)
       asked = asked-append (p .start) (p .end) (r .log) (q .log)
 
-      all : Stored copies p n (k + 1) c (r .after) q → Stored copies p (suc n) k c s (r then q)
+      all : Stored layout p n (k + 1) c (r .after) q → Stored layout p (suc n) k c s (r then q)
       all x =
           record {
             sound = x .sound;
@@ -122,33 +122,33 @@ module _ (copies : ℕ) (p : Places) (c : ℕ) where
             paid = let h = x .paid in let h′ = t .paid in omega (arith, asked, later);
           }
         where
-          here : (j : ℕ) → k ≤ j → j < k + suc n → Dec (j ≡ k) → dataOf copies p (q .after) j ≡ slotCode c j
+          here : (j : ℕ) → k ≤ j → j < k + suc n → Dec (j ≡ k) → dataOf layout p (q .after) j ≡ slotCode c j
           here j l u (yes e) = rw e (x .kept k (omega arith) ∙ t .held)
           here j l u (no d) = x .held j (omega arith) (omega arith)
 
   pub from-laws :
-      (n k : ℕ) (s : Chip) → k + n ≤ slots copies → Ready copies p s
-      → Sound (slots copies) p (pointers copies p s) → Stores copies p n k c s (storeFrom n k copies p c s)
+      (n k : ℕ) (s : Chip) → k + n ≤ slots layout → Ready layout p s
+      → Sound (slots layout) p (pointers layout p s) → Stores layout p n k c s (storeFrom n k layout p c s)
   unfolding storeFrom
   from-laws zero k s fits ready sound = none-laws k s sound
   from-laws (suc n) k s fits ready sound = go (slot .ended) (λ e. from-laws n (k + 1) (r .after) (omega arith) (ready-kept ready (within-kept (slot .within))) (slot .settles e .sound))
     where
       r : Run Work
-      r = storeSlot copies p k (slotCode c k) s
+      r = storeSlot layout p k (slotCode c k) s
 
-      slot : Moves copies p k (slotCode c k) (change (dataOf copies p s k) (slotCode c k)) s r
+      slot : Moves layout p k (slotCode c k) (change (dataOf layout p s k) (slotCode c k)) s r
       slot = slot-laws ready sound k (omega arith) (slotCode c k)
 
       go :
           Ended (r .answer)
-          → (r .answer ≡ Done → Stores copies p n (k + 1) c (r .after) (storeFrom n (k + 1) copies p c (r .after)))
-          → Stores copies p (suc n) k c s (r andThen storeFrom n (k + 1) copies p c)
+          → (r .answer ≡ Done → Stores layout p n (k + 1) c (r .after) (storeFrom n (k + 1) layout p c (r .after)))
+          → Stores layout p (suc n) k c s (r andThen storeFrom n (k + 1) layout p c)
       go (done e) rest = rw (done-then r _ e) (done-laws n k s r _ fits slot e (rest e))
       go (roomless j e) rest = rw (stopped-then r _ _ e) (stopped-laws n k s r _ e slot)
       go (unmapped a e) rest = rw (stopped-then r _ _ e) (stopped-laws n k s r _ e slot)
 
   pub store-laws :
-      (s : Chip) → Ready copies p s → Sound (slots copies) p (pointers copies p s)
-      → Stores copies p (slots copies) 0 c s (store copies p c s)
+      (s : Chip) → Ready layout p s → Sound (slots layout) p (pointers layout p s)
+      → Stores layout p (slots layout) 0 c s (store layout p c s)
   unfolding store
-  store-laws s ready sound = from-laws (slots copies) 0 s (omega arith) ready sound
+  store-laws s ready sound = from-laws (slots layout) 0 s (omega arith) ready sound

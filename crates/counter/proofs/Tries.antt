@@ -7,6 +7,7 @@
 --   try-nowhere               no spare holds exactly where each refuses
 use Prim.Native.Nat.{ℕ, _+_, _-_, _≤_, _<_}
 use mathlib.Core.Path.{_≡_, sym, ap, _∙_}
+use mathlib.Core.Bool.{true≢false}
 use mathlib.Core.Logic.{_↔_}
 use native.Mathlib.Omega.{arith}
 use lib.ListN.{length, length-append}
@@ -61,7 +62,7 @@ row-free High g c i = let h = i .0 in let h′ = i .1 in record { from = omega a
 row-free Low g c i =
     let h = i .0 in
     let h′ = i .1 in
-    record { from = omega arith; to = omega arith; reach = λ e. let z : _≡_ {A = ℕ} 0 1 = cc in absurd (omega arith) }
+    record { from = omega arith; to = omega arith; reach = λ e. absurd (true≢false cc) }
 
 -- the spares are no more than the room
 pub spares-room : (kind : Kind) (g : Gap) → sparesOf kind g ≤ room g
@@ -87,7 +88,7 @@ module _ (k : ℕ) (g : Gap) (b : ℕ) (s : Chip) (paired : Paired s) where
         free = walked-free (kindOf k) g (m .index) (m .inside);
         kept = rw (m .comes) (put .kept);
         held = rw (m .comes) (put .held (m .held));
-        takes = λ r. let e = sym (m .held) ∙ put .worn (r .worn) ∙ ne-eqb _ b (r .other) in let z : _≡_ {A = ℕ} 0 1 = cc in omega arith;
+        takes = λ r. let e = sym (m .held) ∙ put .worn (r .worn) ∙ ne-eqb _ b (r .other) in true≢false cc;
         cost = let h = room-left (kindOf k) g (m .index) (m .inside) in let c = put .cost in rw (m .comes, length-append, asks-length) (omega arith);
       }
 
@@ -120,4 +121,4 @@ try-nowhere k g b s paired = go (try-laws k g b s paired .trying)
   where
     go : Trying k g b s → (trySpares k g b s .answer ≡ Nowhere) ↔ ((a : ℕ) → Free (kindOf k) g a → Refuses a b s)
     go (missing m) = (λ e. m .refused, λ f. m .nowhere)
-    go (landing m) = (λ e. let z : _≡_ {A = ℕ} 0 1 = cc in absurd (omega arith), λ f. absurd (m .takes (f (m .place) (m .free))))
+    go (landing m) = (λ e. absurd (true≢false cc), λ f. absurd (m .takes (f (m .place) (m .free))))

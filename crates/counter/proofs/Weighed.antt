@@ -4,7 +4,7 @@
 --   weigh-entries             what the bytes come to, by their entries
 use Prim.Native.Nat.{ℕ, zero, suc, _+_, _-_, _*_, _<_}
 use mathlib.Core.Path.{_≡_, refl, sym, ap, _∙_}
-use mathlib.Core.Bool.{Bool, true, false}
+use mathlib.Core.Bool.{Bool, true, false, cond}
 use mathlib.Core.List.{List}
 use native.Mathlib.Nat.{zero-add}
 use native.Mathlib.Omega.{arith}
@@ -14,39 +14,39 @@ use Rattle.code.specs.Entries.{readingAt, twofoldAt as twofoldEntry, entryOf}
 use Rattle.code.specs.Gray.{countOf}
 use Rattle.code.specs.Nibbles.{wordOf}
 use Rattle.code.proofs.ReadingLaws.{entry-reading, entry-twofold, lost-zero}
-use Rattle.cells.specs.Chip.{pick}
 use Rattle.code.proofs.TabulateLaws.{alike}
 use Rattle.counter.specs.declared.reading.Fault.the-variants.{Twofold, LostInAll}
 use Rattle.counter.specs.declared.verdict.Refusal.the-variants.{TwoCodes, LostNibble}
-use Rattle.counter.specs.Slots.{two, every, some, lowest}
+use Rattle.counter.specs.Layout.{two}
+use Rattle.counter.specs.Slots.{every, some, lowest}
 use Rattle.counter.specs.Reading.{firstRead, nibbleIn, countIn, twofoldAt, lostAt, decide, onFound, weigh}
 use Rattle.counter.specs.Inside.{amiss}
 use Rattle.counter.proofs.RangeTests.{every-same, some-same, lowest-same}
 
 -- the nibble of a reading, by way of a test that it is not lost
-kept : (r : Reading) → pick (isLost r) 0 (nibbleRead r) ≡ nibbleRead r
+kept : (r : Reading) → cond (isLost r) 0 (nibbleRead r) ≡ nibbleRead r
 kept r = go (isLost r) refl
   where
-    go : (b : Bool) → isLost r ≡ b → pick (isLost r) 0 (nibbleRead r) ≡ nibbleRead r
+    go : (b : Bool) → isLost r ≡ b → cond (isLost r) 0 (nibbleRead r) ≡ nibbleRead r
     go true e = rw e (sym (lost-zero r e))
     go false e = rw e
 
 -- a nibble of one copy takes the other's where it is lost
 pub nibble-two : (reading : ℕ → Reading) (copy n : ℕ) → copy < 2
-    → nibbleIn two reading copy n ≡ pick (isLost (reading (8 * copy + n))) (nibbleRead (reading (8 - 8 * copy + n))) (nibbleRead (reading (8 * copy + n)))
+    → nibbleIn two reading copy n ≡ cond (isLost (reading (8 * copy + n))) (nibbleRead (reading (8 - 8 * copy + n))) (nibbleRead (reading (8 * copy + n)))
 unfolding nibbleIn firstRead
 nibble-two reading zero n l = go (isLost (reading (0 + n))) refl
   where
     go : (b : Bool) → isLost (reading (0 + n)) ≡ b
-        → pick (isLost (reading (0 + n))) (pick (isLost (reading (0 + n))) (pick (isLost (reading (8 + n))) 0 (nibbleRead (reading (8 + n)))) (nibbleRead (reading (0 + n)))) (nibbleRead (reading (0 + n)))
-        ≡ pick (isLost (reading (0 + n))) (nibbleRead (reading (8 + n))) (nibbleRead (reading (0 + n)))
+        → cond (isLost (reading (0 + n))) (cond (isLost (reading (0 + n))) (cond (isLost (reading (8 + n))) 0 (nibbleRead (reading (8 + n)))) (nibbleRead (reading (0 + n)))) (nibbleRead (reading (0 + n)))
+        ≡ cond (isLost (reading (0 + n))) (nibbleRead (reading (8 + n))) (nibbleRead (reading (0 + n)))
     go true e = rw e (kept (reading (8 + n)))
     go false e = rw e
 nibble-two reading (suc zero) n l = go (isLost (reading (8 + n))) refl
   where
     go : (b : Bool) → isLost (reading (8 + n)) ≡ b
-        → pick (isLost (reading (8 + n))) (pick (isLost (reading (0 + n))) (pick (isLost (reading (8 + n))) 0 (nibbleRead (reading (8 + n)))) (nibbleRead (reading (0 + n)))) (nibbleRead (reading (8 + n)))
-        ≡ pick (isLost (reading (8 + n))) (nibbleRead (reading (0 + n))) (nibbleRead (reading (8 + n)))
+        → cond (isLost (reading (8 + n))) (cond (isLost (reading (0 + n))) (cond (isLost (reading (8 + n))) 0 (nibbleRead (reading (8 + n)))) (nibbleRead (reading (0 + n)))) (nibbleRead (reading (8 + n)))
+        ≡ cond (isLost (reading (8 + n))) (nibbleRead (reading (0 + n))) (nibbleRead (reading (8 + n)))
     go true e = rw e (kept (reading (0 + n)))
     go false e = rw e
 nibble-two reading (suc (suc copy)) n l = absurd (omega arith)
@@ -100,7 +100,7 @@ weigh-same one other agree =
     read k l = ap readingOf (agree k l)
 
     twofolds : lowest 8 0 (twofoldAt two one) ≡ lowest 8 0 (twofoldAt two other)
-    twofolds = lowest-same 8 0 _ _ (λ n from to. some-same two _ _ (λ copy l. ap twofold (agree (8 * copy + n) (omega arith))))
+    twofolds = lowest-same 8 0 _ _ (λ n from to. some-same 2 _ _ (λ copy l. ap twofold (agree (8 * copy + n) (omega arith))))
 
     losts : lowest 8 0 (lostAt two (λ k. readingOf (one k))) ≡ lowest 8 0 (lostAt two (λ k. readingOf (other k)))
-    losts = lowest-same 8 0 _ _ (λ n from to. every-same two _ _ (λ copy l. ap isLost (read (8 * copy + n) (omega arith))))
+    losts = lowest-same 8 0 _ _ (λ n from to. every-same 2 _ _ (λ copy l. ap isLost (read (8 * copy + n) (omega arith))))

@@ -15,7 +15,7 @@ use Rattle.counter.specs.declared.spares.Gap.{Gap}
 use Rattle.counter.specs.declared.verdict.Work.{Work}
 use Rattle.counter.specs.declared.verdict.Work.the-variants.{Done, Stopped}
 use Rattle.counter.specs.declared.verdict.Refusal.{Refusal}
-use Rattle.counter.specs.Slots.{slots}
+use Rattle.counter.specs.Layout.{Layout, slots}
 use Rattle.counter.specs.Spares.{gap, wholeArea}
 use Rattle.counter.specs.Verdict.{_andThen_}
 use Rattle.counter.specs.Store.{slotCode, storeSlot, storeFrom, store}
@@ -25,16 +25,16 @@ use Rattle.counter.proofs.Stores.{done-then, stopped-then, changes}
 
 -- ## Storing
 
-module _ (copies : ℕ) (p : Places) (c : ℕ) where
-  pub store-all : (s : Chip) → store copies p c s ≡ storeFrom (slots copies) 0 copies p c s
+module _ (layout : Layout) (p : Places) (c : ℕ) where
+  pub store-all : (s : Chip) → store layout p c s ≡ storeFrom (slots layout) 0 layout p c s
   unfolding store
   store-all s = refl
 
-  pub store-none : (k : ℕ) (s : Chip) → storeFrom 0 k copies p c s ≡ still Done s
+  pub store-none : (k : ℕ) (s : Chip) → storeFrom 0 k layout p c s ≡ still Done s
   unfolding storeFrom
   store-none k s = refl
 
-  pub store-next : (n k : ℕ) (s : Chip) → storeFrom (suc n) k copies p c s ≡ storeSlot copies p k (slotCode c k) s andThen storeFrom n (k + 1) copies p c
+  pub store-next : (n k : ℕ) (s : Chip) → storeFrom (suc n) k layout p c s ≡ storeSlot layout p k (slotCode c k) s andThen storeFrom n (k + 1) layout p c
   unfolding storeFrom
   store-next n k s = refl
 
@@ -57,9 +57,9 @@ pub take-none : (k : ℕ) (g : Gap) (s : Chip) → takeFrom 0 k g s ≡ still (t
 unfolding takeFrom
 take-none k g s = refl
 
-module _ (copies : ℕ) (p : Places) (s : Chip) where
+module _ (layout : Layout) (p : Places) (s : Chip) where
   abbrev taking : Run Taken
-  taking = takeFrom (slots copies) 0 (wholeArea p) s
+  taking = takeFrom (slots layout) 0 (wholeArea p) s
 
   -- the map put behind it
   abbrev mapping : Chip → Run Work
@@ -69,10 +69,10 @@ module _ (copies : ℕ) (p : Places) (s : Chip) where
   abbrev took : Run Work
   took = untried taking giving taking .answer .work
 
-  pub opening-on : taking .answer .work ≡ Done → firstOpening copies p s ≡ took then mapping (taking .after)
+  pub opening-on : taking .answer .work ≡ Done → firstOpening layout p s ≡ took then mapping (taking .after)
   unfolding firstOpening
   opening-on e = done-then took mapping e
 
-  pub opening-ends : {why : Refusal} → taking .answer .work ≡ Stopped why → firstOpening copies p s ≡ took
+  pub opening-ends : {why : Refusal} → taking .answer .work ≡ Stopped why → firstOpening layout p s ≡ took
   unfolding firstOpening
   opening-ends {why} e = stopped-then took mapping why e

@@ -15,7 +15,7 @@ use Rattle.cells.proofs.Puts.{put-laws}
 use Rattle.counter.specs.declared.places.Places.{Places}
 use Rattle.counter.specs.declared.verdict.Work.{Work}
 use Rattle.counter.specs.declared.verdict.Work.the-variants.{Done}
-use Rattle.counter.specs.Slots.{slots}
+use Rattle.counter.specs.Layout.{Layout, slots}
 use Rattle.counter.specs.Map.{mapIn, pointerOf}
 use Rattle.counter.specs.Verdict.{_andThen_}
 use Rattle.counter.specs.Store.{storeSlot}
@@ -23,41 +23,41 @@ use Rattle.counter.proofs.SoundPointers.{Sound}
 use Rattle.counter.proofs.Ready.{pointers, dataOf, Ready, ready-kept, map-kept}
 use Rattle.counter.proofs.Moves.{slot-alive}
 
-module _ {copies : ℕ} {p : Places} {s : Chip} (ready : Ready copies p s) (sound : Sound (slots copies) p (pointers copies p s)) (k : ℕ) (l : k < slots copies) (b : ℕ) where
+module _ {layout : Layout} {p : Places} {s : Chip} (ready : Ready layout p s) (sound : Sound (slots layout) p (pointers layout p s)) (k : ℕ) (l : k < slots layout) (b : ℕ) where
   abbrev written : Chip
-  written = writeAt (pointers copies p s k) b s
+  written = writeAt (pointers layout p s k) b s
 
   pub slot-written :
-      (dataOf copies p s k ≡ b → ⊥) → 1 ≤ lifeAt s (pointers copies p s k)
-      → storeSlot copies p k b s ≡ run Done (write (pointers copies p s k) b ∷ []) 0 written
+      (dataOf layout p s k ≡ b → ⊥) → 1 ≤ lifeAt s (pointers layout p s k)
+      → storeSlot layout p k b s ≡ run Done (write (pointers layout p s k) b ∷ []) 0 written
   slot-written other alive =
-      slot-alive copies p k b s (ready .paired) alive
-      ∙ ap (λ (r : Run Bool). r giving Done) (put-laws (pointers copies p s k) b s (ready .paired) .taken other alive)
+      slot-alive layout p k b s (ready .paired) alive
+      ∙ ap (λ (r : Run Bool). r giving Done) (put-laws (pointers layout p s k) b s (ready .paired) .taken other alive)
 
-  kept : Kept (λ a. a ≡ pointers copies p s k) s written
-  kept = write-laws (pointers copies p s k) b s .kept
+  kept : Kept (λ a. a ≡ pointers layout p s k) s written
+  kept = write-laws (pointers layout p s k) b s .kept
 
-  pub written-map : mapIn copies p (written .cells) ≡ mapIn copies p (s .cells)
+  pub written-map : mapIn layout p (written .cells) ≡ mapIn layout p (s .cells)
   written-map = map-kept ready (kept-wider (λ a e. rw e (sound .inside k l)) kept)
 
-  pub written-ready : Ready copies p written
+  pub written-ready : Ready layout p written
   written-ready = ready-kept ready kept
 
-  pub written-sound : Sound (slots copies) p (pointers copies p written)
+  pub written-sound : Sound (slots layout) p (pointers layout p written)
   written-sound = rw written-map sound
 
-  pub written-data : (j : ℕ) → j < slots copies → (j ≡ k → ⊥) → dataOf copies p written j ≡ dataOf copies p s j
-  written-data j h d = rw written-map (kept .cell (pointers copies p s j) (sound .apart j k h l d))
+  pub written-data : (j : ℕ) → j < slots layout → (j ≡ k → ⊥) → dataOf layout p written j ≡ dataOf layout p s j
+  written-data j h d = rw written-map (kept .cell (pointers layout p s j) (sound .apart j k h l d))
 
-  pub written-life : (j : ℕ) → j < slots copies → (j ≡ k → ⊥) → lifeAt written (pointers copies p written j) ≡ lifeAt s (pointers copies p s j)
-  written-life j h d = rw written-map (kept .life (pointers copies p s j) (sound .apart j k h l d))
+  pub written-life : (j : ℕ) → j < slots layout → (j ≡ k → ⊥) → lifeAt written (pointers layout p written j) ≡ lifeAt s (pointers layout p s j)
+  written-life j h d = rw written-map (kept .life (pointers layout p s j) (sound .apart j k h l d))
 
 -- two slots so written, one after the other
-module _ {copies : ℕ} {p : Places} {s : Chip} (ready : Ready copies p s) (sound : Sound (slots copies) p (pointers copies p s)) (k j : ℕ) (l : k < slots copies) (h : j < slots copies) (d : j ≡ k → ⊥) (b : ℕ) where
+module _ {layout : Layout} {p : Places} {s : Chip} (ready : Ready layout p s) (sound : Sound (slots layout) p (pointers layout p s)) (k j : ℕ) (l : k < slots layout) (h : j < slots layout) (d : j ≡ k → ⊥) (b : ℕ) where
   pub both-written :
-      (dataOf copies p s k ≡ b → ⊥) → (dataOf copies p s j ≡ b → ⊥)
-      → 1 ≤ lifeAt s (pointers copies p s k) → 1 ≤ lifeAt s (pointers copies p s j)
-      → view (storeSlot copies p k b s andThen storeSlot copies p j b) ≡ seen Done 2 0 (writeAt (pointers copies p s j) b (writeAt (pointers copies p s k) b s))
+      (dataOf layout p s k ≡ b → ⊥) → (dataOf layout p s j ≡ b → ⊥)
+      → 1 ≤ lifeAt s (pointers layout p s k) → 1 ≤ lifeAt s (pointers layout p s j)
+      → view (storeSlot layout p k b s andThen storeSlot layout p j b) ≡ seen Done 2 0 (writeAt (pointers layout p s j) b (writeAt (pointers layout p s k) b s))
   both-written other other′ alive alive′ =
       let one = written ready sound k l b in
       let there = ap (λ (map : List ℕ). pointerOf map j) (written-map ready sound k l b) in
@@ -67,6 +67,6 @@ module _ {copies : ℕ} {p : Places} {s : Chip} (ready : Ready copies p s) (soun
       (λ q. other′ (sym (written-data ready sound k l b j h d) ∙ q))
       (rw (written-life ready sound k l b j h d) alive′) in
       rw first
-      (view-then (run Done (write (pointers copies p s k) b ∷ []) 0 one) (storeSlot copies p j b one)
+      (view-then (run Done (write (pointers layout p s k) b ∷ []) 0 one) (storeSlot layout p j b one)
       ∙ ap (λ (r : Run Work). plus 1 0 (view r)) second
       ∙ ap (λ (a : ℕ). seen Done 2 0 (writeAt a b one)) there)

@@ -2,12 +2,12 @@
 -- and what is left (document 01, "Storing, opening, stepping" and "What comes back").
 use Prim.Native.Nat.{ℕ, _+_, _-_}
 use mathlib.Core.Path.{_≡_}
-use mathlib.Core.Bool.{Bool, not}
+use mathlib.Core.Bool.{Bool, not, cond, _&&_}
 use mathlib.Core.List.{List}
 use lib.IntN.{ℤ, pos}
 use lib.ListN.{take, drop}
 use lib.Dec.{leb, eqb}
-use Rattle.cells.specs.Chip.{Chip, pick}
+use Rattle.cells.specs.Chip.{Chip}
 use Rattle.cells.specs.Run.{Run, still}
 use Rattle.counter.specs.declared.doors.Part.{Part}
 use Rattle.counter.specs.declared.places.Places.{Places}
@@ -15,8 +15,8 @@ use Rattle.counter.specs.declared.verdict.Answer.{Answer}
 use Rattle.counter.specs.declared.verdict.Verdict.{Verdict}
 use Rattle.counter.specs.declared.verdict.Verdict.the-variants.{Good, Refused}
 use Rattle.counter.specs.declared.verdict.Refusal.the-variants.{BadLength, UnsoundMap, BadCopy, LastCount}
-use Rattle.counter.specs.Slots.{two, _and_}
-use Rattle.counter.specs.Places.{copyCells, livesGood, fitted}
+use Rattle.counter.specs.Layout.{Layout, two, copyCells}
+use Rattle.counter.specs.Places.{livesGood, fitted}
 use Rattle.counter.specs.Map.{mapIn, marked, pointerOf, sound, partAt}
 use Rattle.counter.specs.Verdict.{Outcome, outcome, outcomeOf, refusalOf, answerOf, onGood, _endingIn_, _andThen_}
 use Rattle.counter.specs.Reading.{unless, guarded, verdictOf}
@@ -28,60 +28,60 @@ abbrev pub lastCount : ℕ
 lastCount = 4294967295
 
 -- what a chip lent with its lives reads as
-unfoldable pub chipVerdict : ℕ → Places → Chip → Verdict
-chipVerdict copies p s = unless (livesGood s) BadLength (verdictOf copies p (s .cells))
+unfoldable pub chipVerdict : Layout → Places → Chip → Verdict
+chipVerdict layout p s = unless (livesGood s) BadLength (verdictOf layout p (s .cells))
 
 -- refusals 1 and 2 do not hold, and the mark is not there
-unfoldable pub unopened : ℕ → Places → Chip → Bool
-unopened copies p s = fitted copies p s and not (marked (mapIn copies p (s .cells)))
+unfoldable pub unopened : Layout → Places → Chip → Bool
+unopened layout p s = fitted layout p s && not (marked (mapIn layout p (s .cells)))
 
 -- Open, both mark bytes right: read c, store c.
-abbrev pub reopening : ℕ → Places → Chip → Run Verdict
-reopening copies p s = onGood (chipVerdict copies p s) (λ c lag. store copies p c s endingIn Good c lag) s
+abbrev pub reopening : Layout → Places → Chip → Run Verdict
+reopening layout p s = onGood (chipVerdict layout p s) (λ c lag. store layout p c s endingIn Good c lag) s
 
 -- Open, else: a first opening, whose count is 0.
-abbrev pub beginning : ℕ → Places → Chip → Run Verdict
-beginning copies p s = firstOpening copies p s endingIn Good 0 (pos 0)
+abbrev pub beginning : Layout → Places → Chip → Run Verdict
+beginning layout p s = firstOpening layout p s endingIn Good 0 (pos 0)
 
-unfoldable pub openRun : ℕ → Places → Chip → Run Verdict
-openRun copies p s =
-    let first = beginning copies p s in
-    let again = reopening copies p s in
-    pick (unopened copies p s) first again
+unfoldable pub openRun : Layout → Places → Chip → Run Verdict
+openRun layout p s =
+    let first = beginning layout p s in
+    let again = reopening layout p s in
+    cond (unopened layout p s) first again
 
 -- Step, from a count c with a lag that was read: store c, then store c + 1.
-abbrev pub stepping : ℕ → Places → ℕ → ℤ → Chip → Run Verdict
-stepping copies p c lag s = (store copies p c s andThen store copies p (c + 1)) endingIn Good (c + 1) lag
+abbrev pub stepping : Layout → Places → ℕ → ℤ → Chip → Run Verdict
+stepping layout p c lag s = (store layout p c s andThen store layout p (c + 1)) endingIn Good (c + 1) lag
 
 -- Step: read c, and go on from it unless it is the last count.
-unfoldable pub stepRun : ℕ → Places → Chip → Run Verdict
-stepRun copies p s =
-    onGood (chipVerdict copies p s)
+unfoldable pub stepRun : Layout → Places → Chip → Run Verdict
+stepRun layout p s =
+    onGood (chipVerdict layout p s)
     (λ c lag.
-    let stepped = stepping copies p c lag s in
-    pick (eqb c lastCount) (still (Refused LastCount) s) stepped)
+    let stepped = stepping layout p c lag s in
+    cond (eqb c lastCount) (still (Refused LastCount) s) stepped)
     s
 
 -- the outcomes of opening and stepping, and the answer of reading, which writes nothing
-unfoldable pub openOf : ℕ → Places → Chip → Outcome
-openOf copies p s = outcomeOf (openRun copies p s)
+unfoldable pub openOf : Layout → Places → Chip → Outcome
+openOf layout p s = outcomeOf (openRun layout p s)
 
-unfoldable pub stepOf : ℕ → Places → Chip → Outcome
-stepOf copies p s = outcomeOf (stepRun copies p s)
+unfoldable pub stepOf : Layout → Places → Chip → Outcome
+stepOf layout p s = outcomeOf (stepRun layout p s)
 
-unfoldable pub readOf : ℕ → Places → List ℕ → Answer
-readOf copies p cells = answerOf (verdictOf copies p cells) 0 0
+unfoldable pub readOf : Layout → Places → List ℕ → Answer
+readOf layout p cells = answerOf (verdictOf layout p cells) 0 0
 
 -- Map part: its code, and where in the image the part starts and how long it is.
 abbrev pub part : ℕ → ℕ → ℕ → Part
 part code start size = record { code = code; start = start; size = size }
 
 -- the tests of map part, in the order of the table; what the data read as is not among them
-unfoldable pub partVerdict : ℕ → Places → List ℕ → ℕ → Verdict
-partVerdict copies p cells copy =
-    guarded copies p cells
-    (unless (sound copies p (pointerOf (mapIn copies p cells))) UnsoundMap
-    (unless (leb 1 copy and leb copy copies) BadCopy
+unfoldable pub partVerdict : Layout → Places → List ℕ → ℕ → Verdict
+partVerdict layout p cells copy =
+    guarded layout p cells
+    (unless (sound layout p (pointerOf (mapIn layout p cells))) UnsoundMap
+    (unless (leb 1 copy && leb copy (layout .copies)) BadCopy
     (Good 0 (pos 0))))
 
 -- the eleven cells of a copy, or, on a refusal, an empty part
@@ -89,8 +89,8 @@ abbrev pub partOn : Verdict → Places → ℕ → Part
 partOn (Good count lag) p copy = part 0 (p .map + partAt (copy - 1)) copyCells
 partOn (Refused why) p copy = part (refusalOf why 0 0 .code) 0 0
 
-unfoldable pub mapPartOf : ℕ → Places → List ℕ → ℕ → Part
-mapPartOf copies p cells copy = partOn (partVerdict copies p cells copy) p copy
+unfoldable pub mapPartOf : Layout → Places → List ℕ → ℕ → Part
+mapPartOf layout p cells copy = partOn (partVerdict layout p cells copy) p copy
 
 -- The promises, at two copies.
 

@@ -1,13 +1,12 @@
 -- What the contracts of functions inside the crate are said with. No promise of a door rests on anything here.
 use Prim.Native.Nat.{ℕ, _+_, _%_, _≤_, _<_}
 use mathlib.Core.Path.{_≡_}
-use mathlib.Core.Bool.{Bool, true, false}
+use mathlib.Core.Bool.{Bool, true, false, cond, _&&_, _||_}
 use mathlib.Core.List.{List, [], _∷_, _++_}
 use lib.ListN.{length, getD}
 use lib.Dec.{ltb}
 use Rattle.code.specs.Readings.{isLost}
 use Rattle.code.specs.Entries.{readingAt, twofoldAt}
-use Rattle.cells.specs.Chip.{pick}
 use Rattle.counter.specs.declared.places.Places.{Places}
 use Rattle.counter.specs.declared.reading.Fault.{Fault}
 use Rattle.counter.specs.declared.reading.Fault.the-variants.{Twofold, LostInAll}
@@ -16,17 +15,18 @@ use Rattle.counter.specs.declared.standing.Standing.the-variants.{Unfit,
 use Rattle.counter.specs.declared.verdict.Work.{Work}
 use Rattle.counter.specs.declared.verdict.Work.the-variants.{Done, Stopped}
 use Rattle.counter.specs.declared.verdict.Refusal.the-variants.{BadLength, BadPlaces, NoSpare}
-use Rattle.counter.specs.Slots.{two, slots, kindOf, _and_, _or_}
-use Rattle.counter.specs.Places.{mapCells, lengthGood, placesGood}
+use Rattle.counter.specs.Layout.{Layout, two, slots, mapCells}
+use Rattle.counter.specs.Slots.{kindOf}
+use Rattle.counter.specs.Places.{lengthGood, placesGood}
 use Rattle.counter.specs.Map.{mapIn, marked, pointerOf, pointerBytes}
 use Rattle.counter.specs.Reading.{dataAt}
 use Rattle.counter.specs.Store.{slotCode}
 
 -- how an image stands before its map is looked at: refusals 1, 2 and 3
-unfoldable pub standingOf : ℕ → Places → List ℕ → Standing
-standingOf copies p cells =
-    pick (lengthGood copies (length cells))
-    (pick (placesGood copies (length cells) p) (pick (marked (mapIn copies p cells)) Marked Unmarked) (Unfit BadPlaces))
+unfoldable pub standingOf : Layout → Places → List ℕ → Standing
+standingOf layout p cells =
+    cond (lengthGood layout (length cells))
+    (cond (placesGood layout (length cells) p) (cond (marked (mapIn layout p cells)) Marked Unmarked) (Unfit BadPlaces))
     (Unfit BadLength)
 
 -- slot k, in two copies, stands for one of the nibbles from one up to another
@@ -47,12 +47,12 @@ Reaches cells map = (length map ≡ mapCells two) × ((k : ℕ) → k < slots tw
 
 -- a nibble whose two copies have these entries in the table of readings has the fault
 abbrev pub amiss : Fault → ℕ → ℕ → Bool
-amiss Twofold a b = twofoldAt a or twofoldAt b
-amiss LostInAll a b = isLost (readingAt a) and isLost (readingAt b)
+amiss Twofold a b = twofoldAt a || twofoldAt b
+amiss LostInAll a b = isLost (readingAt a) && isLost (readingAt b)
 
 -- the cells of all slots hold their codes of c
-abbrev pub Holds : ℕ → Places → ℕ → List ℕ → Type 0
-Holds copies p c cells = (k : ℕ) → k < slots copies → dataAt cells (mapIn copies p cells) k ≡ slotCode c k
+abbrev pub Holds : Layout → Places → ℕ → List ℕ → Type 0
+Holds layout p c cells = (k : ℕ) → k < slots layout → dataAt cells (mapIn layout p cells) k ≡ slotCode c k
 
 -- a piece of storing was stopped
 abbrev pub stopped : Work → Bool
@@ -61,7 +61,7 @@ stopped (Stopped why) = true
 
 -- how a taking ended that served so many slots
 abbrev pub served : ℕ → Work
-served count = pick (ltb count 16) (Stopped (NoSpare count)) Done
+served count = cond (ltb count 16) (Stopped (NoSpare count)) Done
 
 -- the bytes that hold addresses as the pointers of the slots from k on
 unfoldable pub pointerRow : List ℕ → ℕ → List ℕ

@@ -1,3 +1,4 @@
+pub mod Layout
 pub mod Slots
 pub mod Places
 pub mod Map

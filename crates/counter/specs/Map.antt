@@ -1,20 +1,19 @@
 -- The map: its mark, its pointers, and when it is sound (document 01, "The map"). A map is the list of its
 -- cells; `byteAt` is the one place that knows how a byte is kept in it.
 use Prim.Native.Nat.{ℕ, _+_, _*_, _/_, _%_}
-use mathlib.Core.Bool.{Bool, true, not}
+use mathlib.Core.Bool.{Bool, true, not, cond, _&&_}
 use mathlib.Core.List.{List, [], _∷_}
 use lib.ListN.{getD, take, drop}
 use lib.Dec.{leb, ltb, eqb}
-use Rattle.cells.specs.Chip.{pick}
 use Rattle.counter.specs.declared.map.Kind.{Kind}
 use Rattle.counter.specs.declared.map.Kind.the-variants.{High, Low}
 use Rattle.counter.specs.declared.places.Places.{Places}
-use Rattle.counter.specs.Slots.{slots, kindOf, every, _and_}
-use Rattle.counter.specs.Places.{copyCells, mapCells}
+use Rattle.counter.specs.Layout.{Layout, slots, copyCells, mapCells}
+use Rattle.counter.specs.Slots.{kindOf, every}
 
 -- the part of an image's cells that is the map
-abbrev pub mapIn : ℕ → Places → List ℕ → List ℕ
-mapIn copies p cells = take (mapCells copies) (drop (p .map) cells)
+abbrev pub mapIn : Layout → Places → List ℕ → List ℕ
+mapIn layout p cells = take (mapCells layout) (drop (p .map) cells)
 
 -- byte j of a map
 abbrev pub byteAt : List ℕ → ℕ → ℕ
@@ -25,7 +24,7 @@ abbrev pub markBytes : List ℕ
 markBytes = 0xA5 ∷ 0x5A ∷ []
 
 unfoldable pub marked : List ℕ → Bool
-marked map = eqb (byteAt map 0) 0xA5 and eqb (byteAt map 1) 0x5A
+marked map = eqb (byteAt map 0) 0xA5 && eqb (byteAt map 1) 0x5A
 
 -- where the part of a copy, counted from 0, starts in the map
 abbrev pub partAt : ℕ → ℕ
@@ -33,7 +32,7 @@ partAt copy = 2 + copyCells * copy
 
 -- where in its copy's part a nibble's pointer starts: two bytes for each Low nibble, one for each High one
 unfoldable pub offsetIn : ℕ → ℕ
-offsetIn n = pick (ltb n 3) (2 * n) (n + 3)
+offsetIn n = cond (ltb n 3) (2 * n) (n + 3)
 
 -- where a slot's pointer starts in the map
 unfoldable pub offsetOf : ℕ → ℕ
@@ -55,7 +54,7 @@ pointerBytes High a = a ∷ []
 
 -- an address is in the area
 abbrev pub inArea : Places → ℕ → Bool
-inArea p a = leb (p .start) a and leb a (p .end)
+inArea p a = leb (p .start) a && leb a (p .end)
 
 -- a High pointer is at most 255
 unfoldable pub reachable : Kind → ℕ → Bool
@@ -71,9 +70,9 @@ inOrder Low High a b = true
 
 -- the pointers of a map are sound: all in the area, High ones at most 255, all different, and every High one
 -- below every Low one
-unfoldable pub sound : ℕ → Places → (ℕ → ℕ) → Bool
-sound copies p pointer =
-    every (slots copies) (λ k. inArea p (pointer k))
-    and every (slots copies) (λ k. reachable (kindOf k) (pointer k))
-    and every (slots copies) (λ j. every j (λ i. not (eqb (pointer i) (pointer j))))
-    and every (slots copies) (λ i. every (slots copies) (λ j. inOrder (kindOf i) (kindOf j) (pointer i) (pointer j)))
+unfoldable pub sound : Layout → Places → (ℕ → ℕ) → Bool
+sound layout p pointer =
+    every (slots layout) (λ k. inArea p (pointer k))
+    && every (slots layout) (λ k. reachable (kindOf k) (pointer k))
+    && every (slots layout) (λ j. every j (λ i. not (eqb (pointer i) (pointer j))))
+    && every (slots layout) (λ i. every (slots layout) (λ j. inOrder (kindOf i) (kindOf j) (pointer i) (pointer j)))

@@ -13,7 +13,8 @@ use Rattle.counter.specs.declared.spares.Gap.{Gap}
 use Rattle.counter.specs.declared.verdict.Work.{Work}
 use Rattle.counter.specs.declared.verdict.Work.the-variants.{Done, Stopped}
 use Rattle.counter.specs.declared.verdict.Refusal.the-variants.{NoSpare}
-use Rattle.counter.specs.Slots.{slots, kindOf}
+use Rattle.counter.specs.Layout.{Layout, slots}
+use Rattle.counter.specs.Slots.{kindOf}
 use Rattle.counter.specs.Map.{markBytes}
 use Rattle.counter.specs.Spares.{wholeArea, narrow}
 use Rattle.counter.specs.Verdict.{_andThen_}
@@ -53,7 +54,7 @@ abbrev pub untried : {A : Type 0} → Run A → Run A
 untried r = run (r .answer) (r .log) 0 (r .after)
 
 -- all addresses taken, then all pointers put, then the mark
-unfoldable pub firstOpening : ℕ → Places → Chip → Run Work
-firstOpening copies p s =
-    let r = untried (takeFrom (slots copies) 0 (wholeArea p) s) in
+unfoldable pub firstOpening : Layout → Places → Chip → Run Work
+firstOpening layout p s =
+    let r = untried (takeFrom (slots layout) 0 (wholeArea p) s) in
     r giving r .answer .work andThen λ t. putPointers (r .answer .addresses) 0 p t andThen putMark p

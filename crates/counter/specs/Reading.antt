@@ -1,6 +1,6 @@
 -- Reading (document 01, "Reading" and the table of refusals).
 use Prim.Native.Nat.{ℕ, zero, suc, _+_, _-_, _*_}
-use mathlib.Core.Bool.{Bool, true, false}
+use mathlib.Core.Bool.{Bool, true, false, cond}
 use mathlib.Core.List.{List}
 use lib.IntN.{ℤ, pos, negsuc, _-ℤ_}
 use lib.ListN.{length, getD}
@@ -10,7 +10,6 @@ use Rattle.code.specs.Readings.{readingOf, twofold, isLost, nibbleRead}
 use Rattle.code.specs.Gray.{countOf}
 use Rattle.code.specs.Nibbles.{wordOf}
 use Rattle.code.specs.Tabulate.{tabulate}
-use Rattle.cells.specs.Chip.{pick}
 use Rattle.cells.specs.declared.row.Found.{Found}
 use Rattle.cells.specs.declared.row.Found.the-variants.{At, Nowhere}
 use Rattle.counter.specs.declared.places.Places.{Places}
@@ -18,6 +17,7 @@ use Rattle.counter.specs.declared.verdict.Verdict.{Verdict}
 use Rattle.counter.specs.declared.verdict.Verdict.the-variants.{Good, Refused}
 use Rattle.counter.specs.declared.verdict.Refusal.{Refusal}
 use Rattle.counter.specs.declared.verdict.Refusal.the-variants.{BadLength, BadPlaces, NoMark, UnsoundMap, TwoCodes, LostNibble, Apart}
+use Rattle.counter.specs.Layout.{Layout}
 use Rattle.counter.specs.Slots.{every, some, lowest}
 use Rattle.counter.specs.Places.{lengthGood, placesGood}
 use Rattle.counter.specs.Map.{mapIn, marked, pointerOf, sound}
@@ -33,17 +33,17 @@ firstRead zero copy reading n = 0
 firstRead (suc left) copy reading n =
     let other = firstRead left (copy + 1) reading n in
     let own = reading (8 * copy + n) in
-    pick (isLost own) other (nibbleRead own)
+    cond (isLost own) other (nibbleRead own)
 
 -- nibble n of a copy; a lost nibble takes the other copy's
-unfoldable pub nibbleIn : ℕ → (ℕ → Reading) → ℕ → ℕ → ℕ
-nibbleIn copies reading copy n =
+unfoldable pub nibbleIn : Layout → (ℕ → Reading) → ℕ → ℕ → ℕ
+nibbleIn layout reading copy n =
     let own = reading (8 * copy + n) in
-    pick (isLost own) (firstRead copies 0 reading n) (nibbleRead own)
+    cond (isLost own) (firstRead (layout .copies) 0 reading n) (nibbleRead own)
 
 -- the count of a copy: its Gray word turned back
-unfoldable pub countIn : ℕ → (ℕ → Reading) → ℕ → ℕ
-countIn copies reading copy = countOf (wordOf (tabulate (nibbleIn copies reading copy) 0 8))
+unfoldable pub countIn : Layout → (ℕ → Reading) → ℕ → ℕ
+countIn layout reading copy = countOf (wordOf (tabulate (nibbleIn layout reading copy) 0 8))
 
 -- lag 0 or lag 1
 unfoldable pub close : ℤ → Bool
@@ -52,15 +52,15 @@ close (negsuc n) = false
 
 -- what the counts of the first and the last copy decide; lag is the signed number c1 - c2
 unfoldable pub decide : ℕ → ℕ → Verdict
-decide c1 c2 = let lag = pos c1 -ℤ pos c2 in pick (close lag) (Good c1 lag) (Refused (Apart lag))
+decide c1 c2 = let lag = pos c1 -ℤ pos c2 in cond (close lag) (Good c1 lag) (Refused (Apart lag))
 
 -- some copy holds a byte one bit from two codes at nibble n
-abbrev pub twofoldAt : ℕ → (ℕ → ℕ) → ℕ → Bool
-twofoldAt copies byte n = some copies (λ copy. twofold (byte (8 * copy + n)))
+abbrev pub twofoldAt : Layout → (ℕ → ℕ) → ℕ → Bool
+twofoldAt layout byte n = some (layout .copies) (λ copy. twofold (byte (8 * copy + n)))
 
 -- nibble n is lost in every copy
-abbrev pub lostAt : ℕ → (ℕ → Reading) → ℕ → Bool
-lostAt copies reading n = every copies (λ copy. isLost (reading (8 * copy + n)))
+abbrev pub lostAt : Layout → (ℕ → Reading) → ℕ → Bool
+lostAt layout reading n = every (layout .copies) (λ copy. isLost (reading (8 * copy + n)))
 
 -- refused, unless the test holds
 abbrev pub unless : Bool → Refusal → Verdict → Verdict
@@ -73,27 +73,27 @@ onFound (At n) why rest = Refused (why n)
 onFound Nowhere why rest = rest
 
 -- what the bytes of the slots come to: refusals 10, 5 and 6, or the count
-unfoldable pub weigh : ℕ → (ℕ → ℕ) → Verdict
-weigh copies byte =
+unfoldable pub weigh : Layout → (ℕ → ℕ) → Verdict
+weigh layout byte =
     let reading : ℕ → Reading = λ k. readingOf (byte k) in
-    onFound (lowest 8 0 (twofoldAt copies byte)) TwoCodes
-    (onFound (lowest 8 0 (lostAt copies reading)) LostNibble
-    (decide (countIn copies reading 0) (countIn copies reading (copies - 1))))
+    onFound (lowest 8 0 (twofoldAt layout byte)) TwoCodes
+    (onFound (lowest 8 0 (lostAt layout reading)) LostNibble
+    (decide (countIn layout reading 0) (countIn layout reading (layout .copies - 1))))
 
 -- what a marked image reads as: refusal 4, or what the data read as
-unfoldable pub examine : ℕ → Places → List ℕ → Verdict
-examine copies p cells =
-    let map = mapIn copies p cells in
-    unless (sound copies p (pointerOf map)) UnsoundMap (weigh copies (dataAt cells map))
+unfoldable pub examine : Layout → Places → List ℕ → Verdict
+examine layout p cells =
+    let map = mapIn layout p cells in
+    unless (sound layout p (pointerOf map)) UnsoundMap (weigh layout (dataAt cells map))
 
 -- the first tests of every door, in the order of the table: refusals 1, 2 and 3, or the rest
-abbrev pub guarded : ℕ → Places → List ℕ → Verdict → Verdict
-guarded copies p cells rest =
-    unless (lengthGood copies (length cells)) BadLength
-    (unless (placesGood copies (length cells) p) BadPlaces
-    (unless (marked (mapIn copies p cells)) NoMark
+abbrev pub guarded : Layout → Places → List ℕ → Verdict → Verdict
+guarded layout p cells rest =
+    unless (lengthGood layout (length cells)) BadLength
+    (unless (placesGood layout (length cells) p) BadPlaces
+    (unless (marked (mapIn layout p cells)) NoMark
     rest))
 
 -- what an image reads as
-unfoldable pub verdictOf : ℕ → Places → List ℕ → Verdict
-verdictOf copies p cells = guarded copies p cells (examine copies p cells)
+unfoldable pub verdictOf : Layout → Places → List ℕ → Verdict
+verdictOf layout p cells = guarded layout p cells (examine layout p cells)

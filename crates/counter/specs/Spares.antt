@@ -1,7 +1,7 @@
 -- The cells not yet taken (document 01, "The map"). High cells are taken upward from S and Low cells downward
 -- from E, so two numbers say it all: the next High address, and the lowest Low pointer.
 use Prim.Native.Nat.{ℕ, zero, suc, _+_, _-_, min, max}
-use mathlib.Core.Bool.{Bool}
+use mathlib.Core.Bool.{Bool, _&&_}
 use lib.Dec.{leb, ltb}
 use Rattle.cells.specs.declared.row.Way.{Way}
 use Rattle.cells.specs.declared.row.Way.the-variants.{Up, Down}
@@ -9,7 +9,8 @@ use Rattle.counter.specs.declared.map.Kind.{Kind}
 use Rattle.counter.specs.declared.map.Kind.the-variants.{High, Low}
 use Rattle.counter.specs.declared.places.Places.{Places}
 use Rattle.counter.specs.declared.spares.Gap.{Gap}
-use Rattle.counter.specs.Slots.{slots, kindOf, _and_}
+use Rattle.counter.specs.Layout.{Layout, slots}
+use Rattle.counter.specs.Slots.{kindOf}
 use Rattle.counter.specs.Map.{inArea}
 
 abbrev pub gap : ℕ → ℕ → Gap
@@ -31,14 +32,14 @@ gapTo zero p pointer = wholeArea p
 gapTo (suc k) p pointer = narrow (kindOf k) (pointer k) (gapTo k p pointer)
 
 -- what all pointers leave
-unfoldable pub gapOf : ℕ → Places → (ℕ → ℕ) → Gap
-gapOf copies p pointer = gapTo (slots copies) p pointer
+unfoldable pub gapOf : Layout → Places → (ℕ → ℕ) → Gap
+gapOf layout p pointer = gapTo (slots layout) p pointer
 
 -- a spare may be tried: it is in the area, a High one is at most 255 and below every Low pointer, a Low one is
 -- above every High pointer. From the next address on these are as many as `sparesOf` says (proofs/Gaps.antt)
 unfoldable pub mayTry : Places → Kind → Gap → ℕ → Bool
-mayTry p High g a = inArea p a and leb a 255 and ltb a (g .low)
-mayTry p Low g a = inArea p a and leb (g .high) a
+mayTry p High g a = inArea p a && leb a 255 && ltb a (g .low)
+mayTry p Low g a = inArea p a && leb (g .high) a
 
 -- High spares are tried upward, Low ones downward
 unfoldable pub wayOf : Kind → Way

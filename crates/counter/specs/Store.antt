@@ -1,11 +1,12 @@
 -- Storing a count (document 01, "Storing, opening, stepping").
 use Prim.Native.Nat.{ℕ, zero, suc, _+_, _%_}
+use mathlib.Core.Bool.{cond}
 use Rattle.code.specs.Codes.{codeOf}
 use Rattle.code.specs.Gray.{grayOf}
 use Rattle.code.specs.Nibbles.{nibbleOf}
 use Rattle.cells.specs.declared.row.Found.{Found}
 use Rattle.cells.specs.declared.row.Found.the-variants.{At, Nowhere}
-use Rattle.cells.specs.Chip.{Chip, pick}
+use Rattle.cells.specs.Chip.{Chip}
 use Rattle.cells.specs.Run.{Run, still, _then_, _giving_}
 use Rattle.cells.specs.Put.{putAt}
 use Rattle.cells.specs.Row.{walk, putRow}
@@ -14,7 +15,8 @@ use Rattle.counter.specs.declared.spares.Gap.{Gap}
 use Rattle.counter.specs.declared.verdict.Work.{Work}
 use Rattle.counter.specs.declared.verdict.Work.the-variants.{Done, Stopped}
 use Rattle.counter.specs.declared.verdict.Refusal.the-variants.{NoSpare, MapByte}
-use Rattle.counter.specs.Slots.{slots, kindOf}
+use Rattle.counter.specs.Layout.{Layout, slots}
+use Rattle.counter.specs.Slots.{kindOf}
 use Rattle.counter.specs.Map.{mapIn, offsetOf, pointerOf, pointerBytes}
 use Rattle.counter.specs.Spares.{gapOf, wayOf, nextOf, sparesOf}
 use Rattle.counter.specs.Verdict.{_andThen_}
@@ -42,23 +44,23 @@ moveTo p k (At a) s = putPointer p k a s
 moveTo p k Nowhere s = still (Stopped (NoSpare k)) s
 
 -- byte b moved to a spare of slot k's kind
-unfoldable pub moveSlot : ℕ → Places → ℕ → ℕ → Chip → Run Work
-moveSlot copies p k b s =
-    let r = trySpares k (gapOf copies p (pointerOf (mapIn copies p (s .cells)))) b s in
+unfoldable pub moveSlot : Layout → Places → ℕ → ℕ → Chip → Run Work
+moveSlot layout p k b s =
+    let r = trySpares k (gapOf layout p (pointerOf (mapIn layout p (s .cells)))) b s in
     r then moveTo p k (r .answer) (r .after)
 
 -- byte b put at slot k's cell, and moved if the put fails
-unfoldable pub storeSlot : ℕ → Places → ℕ → ℕ → Chip → Run Work
-storeSlot copies p k b s =
-    let r = putAt (pointerOf (mapIn copies p (s .cells)) k) b s in
-    let moved = r then moveSlot copies p k b (r .after) in
-    pick (r .answer) (r giving Done) moved
+unfoldable pub storeSlot : Layout → Places → ℕ → ℕ → Chip → Run Work
+storeSlot layout p k b s =
+    let r = putAt (pointerOf (mapIn layout p (s .cells)) k) b s in
+    let moved = r then moveSlot layout p k b (r .after) in
+    cond (r .answer) (r giving Done) moved
 
 -- the n slots from k on hold their codes of c
-unfoldable pub storeFrom : ℕ → ℕ → ℕ → Places → ℕ → Chip → Run Work
-storeFrom zero k copies p c s = still Done s
-storeFrom (suc n) k copies p c s = storeSlot copies p k (slotCode c k) s andThen storeFrom n (k + 1) copies p c
+unfoldable pub storeFrom : ℕ → ℕ → Layout → Places → ℕ → Chip → Run Work
+storeFrom zero k layout p c s = still Done s
+storeFrom (suc n) k layout p c s = storeSlot layout p k (slotCode c k) s andThen storeFrom n (k + 1) layout p c
 
 -- to store c: copy 1, nibbles 0 to 7, then copy 2 the same
-unfoldable pub store : ℕ → Places → ℕ → Chip → Run Work
-store copies p c s = storeFrom (slots copies) 0 copies p c s
+unfoldable pub store : Layout → Places → ℕ → Chip → Run Work
+store layout p c s = storeFrom (slots layout) 0 layout p c s

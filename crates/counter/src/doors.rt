@@ -7,7 +7,7 @@ ghost use lib.ListN.{length};
 ghost use denote.Ref.{ptr};
 ghost use Rattle.cells.specs.Chip.{chip};
 ghost use Rattle.cells.specs.Run.{seen, view};
-ghost use Rattle.counter.specs.Slots.{two};
+ghost use Rattle.counter.specs.Layout.{two};
 ghost use Rattle.counter.specs.Places.{places, fitted};
 ghost use Rattle.counter.specs.Map.{mapIn, pointerOf, sound};
 ghost use Rattle.counter.specs.Verdict.{ending, answerOf, outcome, outcomeOf, _andThen_};

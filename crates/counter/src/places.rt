@@ -1,6 +1,6 @@
 // The image's length and the place settings (document 01, "The chip as lent").
 ghost use mathlib.Core.Path.{_≡_};
-ghost use Rattle.counter.specs.Slots.{two};
+ghost use Rattle.counter.specs.Layout.{two};
 ghost use Rattle.counter.specs.Places.{lengthGood, placesGood};
 use super::map::Map;
 

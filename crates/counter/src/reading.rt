@@ -1,7 +1,7 @@
 // Reading (document 01, "Reading" and the table of refusals): bytes become readings, readings words, words
 // counts, and counts a verdict. A reading is at hand as its entry in the table of readings.
 ghost use mathlib.Core.Path.{_≡_};
-ghost use mathlib.Core.Bool.{true};
+ghost use mathlib.Core.Bool.{true, cond};
 ghost use Prim.Native.Nat.{ℕ, _+_, _<_};
 ghost use lib.IntN.{ℤ};
 ghost use lib.ListN.{length};
@@ -9,13 +9,13 @@ ghost use Rattle.code.specs.Codes.{codeOf};
 ghost use Rattle.code.specs.Nibbles.{nibbleOf};
 ghost use Rattle.code.specs.Readings.{isLost, nibbleRead};
 ghost use Rattle.code.specs.Entries.{readingAt};
-ghost use Rattle.cells.specs.Chip.{pick};
-ghost use Rattle.counter.specs.Slots.{two, lowest};
+ghost use Rattle.counter.specs.Slots.{lowest};
 ghost use Rattle.counter.specs.Reading.{dataAt, countIn, decide, weigh, examine, verdictOf};
 ghost use Rattle.counter.specs.Places.{lengthGood, placesGood};
 ghost use Rattle.counter.specs.Store.{slotCode};
 ghost use Rattle.counter.specs.Inside.{listed, Reaches, amiss, Holds};
 ghost use Rattle.counter.specs.declared.verdict.Verdict.the-variants.{Good};
+ghost use Rattle.counter.specs.Layout.{two};
 use super::map::Map;
 use super::map::pointer_of;
 use super::places::Places;
@@ -109,7 +109,7 @@ fn lowest_amiss(fault: Fault, entries: &[u8; 16]) -> Found
 
 // The nibble of one entry, or of the other copy's where it is lost.
 fn nibble_of_two(own: u8, other: u8) -> u8
-    ensures { λ r. ⌜ r ≡ pick (isLost (readingAt own)) (nibbleRead (readingAt other)) (nibbleRead (readingAt own)) ⌝ }
+    ensures { λ r. ⌜ r ≡ cond (isLost (readingAt own)) (nibbleRead (readingAt other)) (nibbleRead (readingAt own)) ⌝ }
 {
     if is_lost(reading_at(own)) {
         return nibble_read(reading_at(other));

@@ -2,7 +2,8 @@
 ghost use mathlib.Core.Path.{_≡_};
 ghost use Prim.Native.Nat.{_+_, _≤_, _<_};
 ghost use lib.ListN.{length};
-ghost use Rattle.counter.specs.Slots.{two, kindOf};
+ghost use Rattle.counter.specs.Layout.{two};
+ghost use Rattle.counter.specs.Slots.{kindOf};
 ghost use Rattle.counter.specs.Map.{pointerOf};
 ghost use Rattle.counter.specs.Spares.{wholeArea, narrow, gapOf, mayTry, wayOf, nextOf, sparesOf};
 use super::map::Map;

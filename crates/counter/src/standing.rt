@@ -1,7 +1,7 @@
 // How an image stands before its map is looked at: the first three tests of every door (document 01, "What comes
 // back").
 ghost use mathlib.Core.Path.{_≡_};
-ghost use Rattle.counter.specs.Slots.{two};
+ghost use Rattle.counter.specs.Layout.{two};
 ghost use Rattle.counter.specs.Inside.{standingOf};
 use super::map::Map;
 use super::map::is_marked;

@@ -6,7 +6,7 @@ use libc::STDIN_FILENO;
 use libc::STDOUT_FILENO;
 ghost use Prim.Native.Nat.{_≤_};
 ghost use lib.ListN.{length};
-ghost use Rattle.counter.specs.Slots.{two};
+ghost use Rattle.counter.specs.Layout.{two};
 ghost use Rattle.counter.specs.Doors.{readOf};
 ghost use Rattle.text.specs.Text.{Wrote};
 ghost use Rattle.look.specs.Look.{longest, lookText, settingA};

@@ -2,8 +2,8 @@
 // what that door promises.
 ghost use mathlib.Core.Path.{_≡_};
 ghost use Rattle.cells.specs.Chip.{chip};
+ghost use Rattle.counter.specs.Layout.{two};
 ghost use Rattle.counter.specs.Places.{places};
-ghost use Rattle.counter.specs.Slots.{two};
 ghost use Rattle.counter.specs.Doors.{Opens, Steps, Reads, mapPartOf};
 ghost use Rattle.lyre.specs.Plain.{answerIn, partIn};
 

@@ -16,7 +16,8 @@ use Rattle.code.specs.Readings.{nearFrom, near, readingOf, twofold, isLost, nib
 use Rattle.code.specs.Gray.{bits, grayOf, halvesOf, countOf}
 use Rattle.code.specs.Nibbles.{wordOf}
 use Rattle.counter.specs.declared.verdict.Answer.{Answer}
-use Rattle.counter.specs.Slots.{two, kindOf, every, some, lowest}
+use Rattle.counter.specs.Layout.{two}
+use Rattle.counter.specs.Slots.{kindOf, every, some, lowest}
 use Rattle.counter.specs.Places.{places, lengthGood, placesGood}
 use Rattle.counter.specs.Map.{marked, offsetIn, offsetOf, pointerAt, pointerOf, reachable, inOrder, sound}
 use Rattle.counter.specs.Verdict.{answer, refusalOf, answerOf}

@@ -15,7 +15,6 @@ use Rattle.counter.specs.declared.places.Places.{Places}
 use Rattle.counter.specs.declared.verdict.Verdict.the-variants.{Good}
 use Rattle.counter.specs.declared.verdict.Work.{Work}
 use Rattle.counter.specs.declared.verdict.Work.the-variants.{Done}
-use Rattle.counter.specs.Slots.{slots}
 use Rattle.counter.specs.Map.{mapIn, byteAt, marked}
 use Rattle.counter.specs.Spares.{wholeArea}
 use Rattle.counter.specs.Verdict.{ending, _andThen_}
@@ -23,6 +22,7 @@ use Rattle.counter.specs.Opening.{Taken, takeFrom, putPointers, putMark, untrie
 use Rattle.counter.specs.Doors.{beginning, openRun}
 use Rattle.code.proofs.CodeLaws.{code-zero}
 use Rattle.cells.proofs.AskedOnce.{asked-outside, Once, once-append}
+use Rattle.counter.specs.Layout.{Layout, slots}
 use Rattle.counter.proofs.MapBytes.{map-byte, mark-none}
 use Rattle.counter.proofs.Ready.{pointers, Ready, InMap, ready-placed, ready-kept, inside-cell, apart-map}
 use Rattle.counter.proofs.Takes.{InGap, AllTaken, Takes, take-laws}
@@ -33,63 +33,63 @@ use Rattle.counter.proofs.DoorViews.{ready-unopened, open-first}
 use Rattle.promises.proofs.CalmTakes.{roomy-whole, CalmTake, calm-take}
 use Rattle.promises.proofs.CalmMaps.{Calmly, calm-maps}
 
-pub record BlankAlive (copies : ℕ) (p : Places) (s : Chip) : Type 0 where
-  pub ready : Ready copies p s
+pub record BlankAlive (layout : Layout) (p : Places) (s : Chip) : Type 0 where
+  pub ready : Ready layout p s
   pub blank : (a : ℕ) → a < length (s .cells) → cellAt s a ≡ 0xFF
   pub alive : (a : ℕ) → a < length (s .cells) → 1 ≤ lifeAt s a
 
-pub record OpenCalm (copies : ℕ) (p : Places) (s : Chip) : Type 0 where
-  pub answers : openRun copies p s .answer ≡ Good 0 (pos 0)
-  pub tried : openRun copies p s .tried ≡ 0
-  pub exact : Exact copies p 0 (openRun copies p s .after)
-  pub asked : (k : ℕ) → k < slots copies → askedOf (pointers copies p (openRun copies p s .after) k) (openRun copies p s .log) ≡ 1
-  pub once : Once (openRun copies p s .log)
+pub record OpenCalm (layout : Layout) (p : Places) (s : Chip) : Type 0 where
+  pub answers : openRun layout p s .answer ≡ Good 0 (pos 0)
+  pub tried : openRun layout p s .tried ≡ 0
+  pub exact : Exact layout p 0 (openRun layout p s .after)
+  pub asked : (k : ℕ) → k < slots layout → askedOf (pointers layout p (openRun layout p s .after) k) (openRun layout p s .log) ≡ 1
+  pub once : Once (openRun layout p s .log)
 
-module _ {copies : ℕ} {p : Places} {s : Chip} (fresh : BlankAlive copies p s) where
+module _ {layout : Layout} {p : Places} {s : Chip} (fresh : BlankAlive layout p s) where
   -- ## The mark is not there
 
-  no-mark : marked (mapIn copies p (s .cells)) ≡ false
+  no-mark : marked (mapIn layout p (s .cells)) ≡ false
   no-mark =
       let fits = ready-placed (fresh .ready) .mapFits in
-      let first : byteAt (mapIn copies p (s .cells)) 0 ≡ 0xFF = map-byte copies p (s .cells) 0 (omega arith) ∙ fresh .blank (p .map + 0) (omega arith) in
+      let first : byteAt (mapIn layout p (s .cells)) 0 ≡ 0xFF = map-byte layout p (s .cells) 0 (omega arith) ∙ fresh .blank (p .map + 0) (omega arith) in
       mark-none _ (λ e. omega arith)
 
-  opens-first : openRun copies p s ≡ beginning copies p s
-  opens-first = open-first copies p s (ready-unopened copies p s (fresh .ready) no-mark)
+  opens-first : openRun layout p s ≡ beginning layout p s
+  opens-first = open-first layout p s (ready-unopened layout p s (fresh .ready) no-mark)
 
   -- ## The addresses
 
   abbrev taking : Run Taken
-  taking = takeFrom (slots copies) 0 (wholeArea p) s
+  taking = takeFrom (slots layout) 0 (wholeArea p) s
 
   inside : (c : ℕ) → InGap (wholeArea p) c → c < length (s .cells)
   inside c i = inside-cell (fresh .ready) (whole-inside p c i)
 
-  taken-calm : CalmTake (slots copies) taking
+  taken-calm : CalmTake (slots layout) taking
   taken-calm =
-      calm-take (slots copies) 0 (wholeArea p) s (roomy-whole (ready-placed (fresh .ready)))
+      calm-take (slots layout) 0 (wholeArea p) s (roomy-whole (ready-placed (fresh .ready)))
       (record {
         paired = fresh .ready .paired;
         alive = λ c i. fresh .alive c (inside c i);
         other = λ c i e. let h = fresh .blank c (inside c i) in omega (arith, code-zero);
       })
 
-  takes : Takes (slots copies) 0 (wholeArea p) s taking
-  takes = take-laws (slots copies) 0 (wholeArea p) s (fresh .ready .paired)
+  takes : Takes (slots layout) 0 (wholeArea p) s taking
+  takes = take-laws (slots layout) 0 (wholeArea p) s (fresh .ready .paired)
 
-  all : AllTaken (slots copies) 0 (wholeArea p) taking
+  all : AllTaken (slots layout) 0 (wholeArea p) taking
   all = takes .all (taken-calm .done)
 
   -- ## The map
 
-  ready-taken : Ready copies p (taking .after)
+  ready-taken : Ready layout p (taking .after)
   ready-taken = ready-kept (fresh .ready) (within-kept (takes .within))
 
   abbrev mapping : Run Work
   mapping = putPointers (taking .answer .addresses) 0 p (taking .after) andThen putMark p
 
   -- the cells of the map are none of the area
-  mapping-calm : Calmly (InMap copies p) mapping
+  mapping-calm : Calmly (InMap layout p) mapping
   mapping-calm =
       calm-maps ready-taken (taking .answer .addresses) (all .many)
       (λ c from to.
@@ -97,31 +97,31 @@ module _ {copies : ℕ} {p : Places} {s : Chip} (fresh : BlankAlive copies p s) 
       rw (within-kept (takes .within) .life c (λ i. apart-map (fresh .ready) (record { from = omega arith; to = to }) (whole-inside p c i)))
       (fresh .alive c (omega arith)))
 
-  maps : Maps copies p (taking .answer .addresses) (taking .after) mapping
+  maps : Maps layout p (taking .answer .addresses) (taking .after) mapping
   maps = maps-laws ready-taken (taking .answer .addresses) (all .many)
 
   -- ## Both
 
-  opening-is : firstOpening copies p s ≡ (untried taking giving taking .answer .work) then mapping
-  opening-is = opening-on copies p s (taken-calm .done)
+  opening-is : firstOpening layout p s ≡ (untried taking giving taking .answer .work) then mapping
+  opening-is = opening-on layout p s (taken-calm .done)
 
-  done : firstOpening copies p s .answer ≡ Done
+  done : firstOpening layout p s .answer ≡ Done
   done = rw opening-is (mapping-calm .done)
 
-  apart : (c : ℕ) → InGap (wholeArea p) c → InMap copies p c → ⊥
+  apart : (c : ℕ) → InGap (wholeArea p) c → InMap layout p c → ⊥
   apart c i m = apart-map (fresh .ready) m (whole-inside p c i)
 
-  asked-once : (k : ℕ) → k < slots copies → askedOf (pointers copies p (firstOpening copies p s .after) k) (firstOpening copies p s .log) ≡ 1
+  asked-once : (k : ℕ) → k < slots layout → askedOf (pointers layout p (firstOpening layout p s .after) k) (firstOpening layout p s .log) ≡ 1
   asked-once k l =
       let a = getD (taking .answer .addresses) k 0 in
       let none = asked-outside a (mapping-calm .places) (apart a (all .inside k l)) in
       let one = taken-calm .asked k l in
       rw (opening-is, maps .pointed (mapping-calm .done) k l, asked-append) (omega arith)
 
-  opening-once : Once (firstOpening copies p s .log)
+  opening-once : Once (firstOpening layout p s .log)
   opening-once = rw opening-is (once-append (takes .within .places) (mapping-calm .places) apart (taken-calm .once) (mapping-calm .once))
 
-  pub open-calm : OpenCalm copies p s
+  pub open-calm : OpenCalm layout p s
   open-calm =
       record {
         answers = rw opens-first (ap (ending (Good 0 (pos 0))) done);

@@ -17,13 +17,12 @@ use Rattle.cells.proofs.Rows.{row-laws}
 use Rattle.counter.specs.declared.places.Places.{Places}
 use Rattle.counter.specs.declared.verdict.Work.{Work}
 use Rattle.counter.specs.declared.verdict.Work.the-variants.{Done}
-use Rattle.counter.specs.Slots.{slots}
-use Rattle.counter.specs.Places.{mapCells}
 use Rattle.counter.specs.Map.{markBytes, offsetOf}
 use Rattle.counter.specs.Verdict.{_andThen_}
 use Rattle.counter.specs.Opening.{putPointers, putMark}
 use Rattle.counter.specs.Inside.{pointerRow}
 use Rattle.cells.proofs.AskedOnce.{asked-outside, Once, once-append, once-row}
+use Rattle.counter.specs.Layout.{Layout, slots, mapCells}
 use Rattle.counter.proofs.Offsets.{offset-first, offset-most}
 use Rattle.counter.proofs.Ready.{Ready, InMap, ready-kept}
 use Rattle.counter.proofs.Pointers.{done-mapped}
@@ -37,8 +36,8 @@ pub record Calmly (Place : ℕ → Type 0) (r : Run Work) : Type 0 where
   pub once : Once (r .log)
 
 -- the cells of the map from byte j on have life
-abbrev pub LiveFrom : ℕ → ℕ → Places → Chip → Type 0
-LiveFrom j copies p s = (c : ℕ) → p .map + j ≤ c → c < p .map + mapCells copies → 1 ≤ lifeAt s c
+abbrev pub LiveFrom : ℕ → Layout → Places → Chip → Type 0
+LiveFrom j layout p s = (c : ℕ) → p .map + j ≤ c → c < p .map + mapCells layout → 1 ≤ lifeAt s c
 
 -- a cell of the map from byte j on
 abbrev pub Behind : ℕ → Places → ℕ → Type 0
@@ -53,24 +52,24 @@ row-calm bytes a s paired alive =
     record { done = done-mapped _ (laws .alive alive); places = laws .within .places; once = once-row bytes a s }
 
 pub calm-points :
-    {copies : ℕ} {p : Places} (addresses : List ℕ) (k : ℕ) (s : Chip) → Ready copies p s → k + length addresses ≤ slots copies
-    → LiveFrom (offsetOf k) copies p s → Calmly (Behind (offsetOf k) p) (putPointers addresses k p s)
-calm-points {copies} {p} addresses k s ready fits live =
+    {layout : Layout} {p : Places} (addresses : List ℕ) (k : ℕ) (s : Chip) → Ready layout p s → k + length addresses ≤ slots layout
+    → LiveFrom (offsetOf k) layout p s → Calmly (Behind (offsetOf k) p) (putPointers addresses k p s)
+calm-points {layout} {p} addresses k s ready fits live =
     let size = row-length addresses k in
-    let most = offset-most copies (k + length addresses) fits in
+    let most = offset-most layout (k + length addresses) fits in
     let calm = row-calm (pointerRow addresses k) (p .map + offsetOf k) s (ready .paired) (λ j l. live _ (omega arith) (omega arith)) in
     rw (pointers-row addresses k p s) (record { done = calm .done; places = every-wider (λ c i. i .0) (calm .places); once = calm .once })
 
-module _ {copies : ℕ} {p : Places} {s : Chip} (ready : Ready copies p s) (addresses : List ℕ) (many : length addresses ≡ slots copies)
-    (live : LiveFrom 0 copies p s) where
+module _ {layout : Layout} {p : Places} {s : Chip} (ready : Ready layout p s) (addresses : List ℕ) (many : length addresses ≡ slots layout)
+    (live : LiveFrom 0 layout p s) where
   abbrev pointing : Run Work
   pointing = putPointers addresses 0 p s
 
   points-calm : Calmly (Behind (offsetOf 0) p) pointing
   points-calm = calm-points addresses 0 s ready (omega arith) (λ c from to. live c (omega arith) to)
 
-  points : Points copies p addresses 0 s pointing
-  points = points-laws copies p addresses 0 s ready (omega arith)
+  points : Points layout p addresses 0 s pointing
+  points = points-laws layout p addresses 0 s ready (omega arith)
 
   -- the mark's cells are in front of all pointers
   mark-live : (j : ℕ) → j < 2 → 1 ≤ lifeAt (pointing .after) (p .map + j)
@@ -81,7 +80,7 @@ module _ {copies : ℕ} {p : Places} {s : Chip} (ready : Ready copies p s) (addr
       let e = within-life (points .within) (p .map + j) in
       omega arith
 
-  pub calm-maps : Calmly (InMap copies p) (putPointers addresses 0 p s andThen putMark p)
+  pub calm-maps : Calmly (InMap layout p) (putPointers addresses 0 p s andThen putMark p)
   calm-maps =
       let mark = row-calm markBytes (p .map) (pointing .after) (ready-kept ready (within-kept (points .within)) .paired) mark-live in
       let first = offset-first 0 in

@@ -21,11 +21,12 @@ use Rattle.counter.specs.declared.map.Kind.{Kind}
 use Rattle.counter.specs.declared.places.Places.{Places}
 use Rattle.counter.specs.declared.spares.Gap.{Gap}
 use Rattle.counter.specs.declared.verdict.Work.the-variants.{Done}
-use Rattle.counter.specs.Slots.{slots, kindOf}
+use Rattle.counter.specs.Slots.{kindOf}
 use Rattle.counter.specs.Spares.{wholeArea, narrow, nextOf, sparesOf}
 use Rattle.counter.specs.Store.{trySpares}
 use Rattle.counter.specs.Opening.{Taken, taken, takeFrom}
 use Rattle.cells.proofs.AskedOnce.{Once, once-none, once-append, asked-outside}
+use Rattle.counter.specs.Layout.{Layout, slots}
 use Rattle.counter.proofs.Settings.{Placed}
 use Rattle.counter.proofs.Gaps.{Free}
 use Rattle.counter.proofs.Takes.{InGap, Takes, narrow-inside, narrow-other, take-landing, take-laws}
@@ -40,8 +41,8 @@ pub record Roomy (n k : ℕ) (g : Gap) : Type 0 where
   pub cells : g .high + n ≤ g .low
   pub reach : g .high + highs (k + n) ≤ 256 + highs k
 
-pub roomy-whole : {copies n : ℕ} {p : Places} → Placed copies n p → Roomy (slots copies) 0 (wholeArea p)
-roomy-whole {copies} {n} {p} placed = rw (whole-gap p) (record { cells = placed .large; reach = let h = placed .startLow in let h′ = placed .startReaches in omega arith })
+pub roomy-whole : {layout : Layout} {n : ℕ} {p : Places} → Placed layout n p → Roomy (slots layout) 0 (wholeArea p)
+roomy-whole {layout} {n} {p} placed = rw (whole-gap p) (record { cells = placed .large; reach = let h = placed .startLow in let h′ = placed .startReaches in omega arith })
 
 -- the next address of a kind is free, and what it leaves has room for the other slots
 pub record NextFree (kind : Kind) (n k : ℕ) (g : Gap) : Type 0 where

@@ -9,7 +9,7 @@ use native.Mathlib.Omega.{arith}
 use lib.ListN.{length}
 use Rattle.cells.specs.Chip.{Chip, lifeAt}
 use Rattle.counter.specs.declared.places.Places.{Places}
-use Rattle.counter.specs.Slots.{two}
+use Rattle.counter.specs.Layout.{two}
 use Rattle.counter.specs.Doors.{lastCount, openRun, openOf}
 use Rattle.promises.specs.Runs.{stepsAfter, Fresh, Lasts, dataWrites, areaCells, dataBound}
 use Rattle.counter.proofs.Settings.{length-good}

@@ -6,6 +6,7 @@
 --   StepCalm, step-calm       what it does where the cells that change have life
 use Prim.Native.Nat.{ℕ, zero, suc, _+_, _-_, _*_, _/_, _%_, _^_, _≤_, _<_}
 use mathlib.Core.Path.{_≡_, refl, ap, _∙_}
+use mathlib.Core.Bool.{cond}
 use mathlib.Core.List.{List, [], _∷_}
 use native.Mathlib.Nat.{zero-add, add-zero}
 use native.Mathlib.Decide.{ℕ-discrete}
@@ -14,7 +15,7 @@ use lib.IntN.{ℤ, pos}
 use lib.Dec.{eqb}
 use borrow.Author.Tests.{eq-eqb, ne-eqb}
 use Rattle.code.proofs.ChangeLaws.{step-nibble-small}
-use Rattle.cells.specs.Chip.{Chip, lifeAt, pick}
+use Rattle.cells.specs.Chip.{Chip, lifeAt}
 use Rattle.cells.specs.Run.{Run, Write, write, still}
 use Rattle.cells.specs.Log.{askedIn, askedOf}
 use Rattle.counter.specs.declared.places.Places.{Places}
@@ -22,7 +23,7 @@ use Rattle.counter.specs.declared.verdict.Verdict.{Verdict}
 use Rattle.counter.specs.declared.verdict.Verdict.the-variants.{Good}
 use Rattle.counter.specs.declared.verdict.Work.{Work}
 use Rattle.counter.specs.declared.verdict.Work.the-variants.{Done, Stopped}
-use Rattle.counter.specs.Slots.{slots}
+use Rattle.counter.specs.Layout.{Layout, slots}
 use Rattle.counter.specs.Map.{mapIn}
 use Rattle.counter.specs.Verdict.{ending, _endingIn_, _andThen_}
 use Rattle.counter.specs.Store.{slotCode, store}
@@ -100,85 +101,85 @@ ending-done v (Stopped why) e = not-good e
 
 -- what it asks of area cells: in any case no more than one write a copy and the room; and, where it is good, what it
 -- asks and the room it leaves are no more than that
-pub record StepBound (copies : ℕ) (p : Places) (s : Chip) : Type 0 where
-  pub bounded : askedIn (p .start) (p .end) (stepRun copies p s .log) ≤ copies + roomOf copies p s
+pub record StepBound (layout : Layout) (p : Places) (s : Chip) : Type 0 where
+  pub bounded : askedIn (p .start) (p .end) (stepRun layout p s .log) ≤ layout .copies + roomOf layout p s
   pub paid :
-      (d : ℕ) (lag : ℤ) → stepRun copies p s .answer ≡ Good d lag
-      → askedIn (p .start) (p .end) (stepRun copies p s .log) + roomOf copies p (stepRun copies p s .after) ≤ copies + roomOf copies p s
+      (d : ℕ) (lag : ℤ) → stepRun layout p s .answer ≡ Good d lag
+      → askedIn (p .start) (p .end) (stepRun layout p s .log) + roomOf layout p (stepRun layout p s .after) ≤ layout .copies + roomOf layout p s
 
 -- it answers, tries no spare, keeps the map, and writes the cell of the changed nibble in each copy, in order, and no other
-pub record StepCalm (copies : ℕ) (p : Places) (c : ℕ) (s : Chip) : Type 0 where
-  pub answers : stepRun copies p s .answer ≡ Good (c + 1) (pos 0)
-  pub tried : stepRun copies p s .tried ≡ 0
-  pub map : mapIn copies p (stepRun copies p s .after .cells) ≡ mapIn copies p (s .cells)
-  pub log : stepRun copies p s .log ≡ stepWrites copies 0 (pointers copies p s) c
-  pub exact : Exact copies p (c + 1) (stepRun copies p s .after)
-  pub tally : (j : ℕ) → j < slots copies → askedOf (pointers copies p s j) (stepRun copies p s .log) ≡ pick (eqb (j % 8) (changedNibble c)) 1 0
-  pub others : (a : ℕ) → ((j : ℕ) → j < slots copies → pointers copies p s j ≡ a → ⊥) → askedOf a (stepRun copies p s .log) ≡ 0
+pub record StepCalm (layout : Layout) (p : Places) (c : ℕ) (s : Chip) : Type 0 where
+  pub answers : stepRun layout p s .answer ≡ Good (c + 1) (pos 0)
+  pub tried : stepRun layout p s .tried ≡ 0
+  pub map : mapIn layout p (stepRun layout p s .after .cells) ≡ mapIn layout p (s .cells)
+  pub log : stepRun layout p s .log ≡ stepWrites (layout .copies) 0 (pointers layout p s) c
+  pub exact : Exact layout p (c + 1) (stepRun layout p s .after)
+  pub tally : (j : ℕ) → j < slots layout → askedOf (pointers layout p s j) (stepRun layout p s .log) ≡ cond (eqb (j % 8) (changedNibble c)) 1 0
+  pub others : (a : ℕ) → ((j : ℕ) → j < slots layout → pointers layout p s j ≡ a → ⊥) → askedOf a (stepRun layout p s .log) ≡ 0
 
-module _ {copies : ℕ} {p : Places} {c : ℕ} {s : Chip} (one : 1 ≤ copies) (below : c < lastCount) (exact : Exact copies p c s) where
+module _ {layout : Layout} {p : Places} {c : ℕ} {s : Chip} (one : 1 ≤ layout .copies) (below : c < lastCount) (exact : Exact layout p c s) where
   abbrev next : Run Work
-  next = store copies p (c + 1) s
+  next = store layout p (c + 1) s
 
-  pub step-stores : stepRun copies p s ≡ next endingIn Good (c + 1) (pos 0)
+  pub step-stores : stepRun layout p s ≡ next endingIn Good (c + 1) (pos 0)
   step-stores =
-      step-on copies p s c (pos 0) (exact-verdict exact one (omega arith)) (λ e. omega arith)
-      ∙ ap (λ (r : Run Work). (r andThen store copies p (c + 1)) endingIn Good (c + 1) (pos 0)) (exact-still exact)
+      step-on layout p s c (pos 0) (exact-verdict exact one (omega arith)) (λ e. omega arith)
+      ∙ ap (λ (r : Run Work). (r andThen store layout p (c + 1)) endingIn Good (c + 1) (pos 0)) (exact-still exact)
       ∙ after
     where
-      after : _≡_ {A = Run Verdict} ((still Done s andThen store copies p (c + 1)) endingIn Good (c + 1) (pos 0)) (store copies p (c + 1) s endingIn Good (c + 1) (pos 0))
+      after : _≡_ {A = Run Verdict} ((still Done s andThen store layout p (c + 1)) endingIn Good (c + 1) (pos 0)) (store layout p (c + 1) s endingIn Good (c + 1) (pos 0))
       after = rw zero-add
 
-  laws : Stores copies p (slots copies) 0 (c + 1) s next
-  laws = store-laws copies p (c + 1) s (exact .ready) (exact .sound)
+  laws : Stores layout p (slots layout) 0 (c + 1) s next
+  laws = store-laws layout p (c + 1) s (exact .ready) (exact .sound)
 
-  cost : changes (slots copies) 0 (dataOf copies p s) (slotCode (c + 1)) ≡ copies
-  cost = changes-same (slots copies) 0 _ _ (slotCode (c + 1)) (λ j l u. exact .held j (omega arith)) ∙ step-changes c (omega arith) copies
+  cost : changes (slots layout) 0 (dataOf layout p s) (slotCode (c + 1)) ≡ layout .copies
+  cost = changes-same (slots layout) 0 _ _ (slotCode (c + 1)) (λ j l u. exact .held j (omega arith)) ∙ step-changes c (omega arith) layout
 
-  pub step-bound : StepBound copies p s
+  pub step-bound : StepBound layout p s
   step-bound =
       rw-bound
       (let h = laws .bounded in omega (arith, cost))
       (λ d lag e. let h = laws .stored (ending-done (Good (c + 1) (pos 0)) (next .answer) e) .paid in omega (arith, cost))
     where
       rw-bound :
-          askedIn (p .start) (p .end) (next .log) ≤ copies + roomOf copies p s
-          → ((d : ℕ) (lag : ℤ) → ending (Good (c + 1) (pos 0)) (next .answer) ≡ Good d lag → askedIn (p .start) (p .end) (next .log) + roomOf copies p (next .after) ≤ copies + roomOf copies p s)
-          → StepBound copies p s
+          askedIn (p .start) (p .end) (next .log) ≤ layout .copies + roomOf layout p s
+          → ((d : ℕ) (lag : ℤ) → ending (Good (c + 1) (pos 0)) (next .answer) ≡ Good d lag → askedIn (p .start) (p .end) (next .log) + roomOf layout p (next .after) ≤ layout .copies + roomOf layout p s)
+          → StepBound layout p s
       rw-bound bounded paid = record { bounded = rw step-stores bounded; paid = rw step-stores paid }
 
-  module _ (life : (copy : ℕ) → copy < copies → 1 ≤ lifeAt s (pointers copies p s (8 * copy + changedNibble c))) where
+  module _ (life : (copy : ℕ) → copy < layout .copies → 1 ≤ lifeAt s (pointers layout p s (8 * copy + changedNibble c))) where
     -- the slots that change are those of the changed nibble
-    alive : Alive copies p (slots copies) 0 (c + 1) s
+    alive : Alive layout p (slots layout) 0 (c + 1) s
     alive j l u d = go (ℕ-discrete (j % 8) (changedNibble c))
       where
-        go : Dec (j % 8 ≡ changedNibble c) → 1 ≤ lifeAt s (pointers copies p s j)
+        go : Dec (j % 8 ≡ changedNibble c) → 1 ≤ lifeAt s (pointers layout p s j)
         go (yes e) = let q : 8 * (j / 8) + changedNibble c ≡ j = omega arith in rw q at (life (j / 8) (omega arith))
         go (no n) = absurd (d (exact .held j (omega arith) ∙ step-stays c (omega arith) j n))
 
-    calm : Calm copies p (slots copies) 0 (c + 1) s next
-    calm = calm-store copies p (c + 1) s (exact .ready) (exact .sound) alive
+    calm : Calm layout p (slots layout) 0 (c + 1) s next
+    calm = calm-store layout p (c + 1) s (exact .ready) (exact .sound) alive
 
     -- the log over the codes of the two counts
-    log-is : next .log ≡ changedWrites (slots copies) 0 (pointers copies p s) (slotCode c) (slotCode (c + 1))
-    log-is = calm .log ∙ writes-same (slots copies) 0 _ _ _ _ (slotCode (c + 1)) (λ j l u. (refl, exact .held j (omega arith)))
+    log-is : next .log ≡ changedWrites (slots layout) 0 (pointers layout p s) (slotCode c) (slotCode (c + 1))
+    log-is = calm .log ∙ writes-same (slots layout) 0 _ _ _ _ (slotCode (c + 1)) (λ j l u. (refl, exact .held j (omega arith)))
 
-    tally-is : (j : ℕ) → j < slots copies → askedOf (pointers copies p s j) (next .log) ≡ pick (eqb (j % 8) (changedNibble c)) 1 0
+    tally-is : (j : ℕ) → j < slots layout → askedOf (pointers layout p s j) (next .log) ≡ cond (eqb (j % 8) (changedNibble c)) 1 0
     tally-is j l =
-        ap (askedOf (pointers copies p s j)) log-is
-        ∙ tally-slot (pointers copies p s) (slotCode c) (slotCode (c + 1)) (slots copies) 0 j (omega arith) (omega arith) (λ i m u d. exact .sound .apart i j (omega arith) l d)
+        ap (askedOf (pointers layout p s j)) log-is
+        ∙ tally-slot (pointers layout p s) (slotCode c) (slotCode (c + 1)) (slots layout) 0 j (omega arith) (omega arith) (λ i m u d. exact .sound .apart i j (omega arith) l d)
         ∙ change-step c (omega arith) j
 
-    others-are : (a : ℕ) → ((j : ℕ) → j < slots copies → pointers copies p s j ≡ a → ⊥) → askedOf a (next .log) ≡ 0
-    others-are a d = ap (askedOf a) log-is ∙ tally-other (pointers copies p s) (slotCode c) (slotCode (c + 1)) a (slots copies) 0 (λ i m u. d i (omega arith))
+    others-are : (a : ℕ) → ((j : ℕ) → j < slots layout → pointers layout p s j ≡ a → ⊥) → askedOf a (next .log) ≡ 0
+    others-are a d = ap (askedOf a) log-is ∙ tally-other (pointers layout p s) (slotCode c) (slotCode (c + 1)) a (slots layout) 0 (λ i m u. d i (omega arith))
 
-    pub step-calm : StepCalm copies p c s
+    pub step-calm : StepCalm layout p c s
     step-calm =
         record {
           answers = rw step-stores (ap (ending (Good (c + 1) (pos 0))) (calm .done));
           tried = rw step-stores (calm .tried);
           map = rw step-stores (calm .map);
-          log = rw step-stores (log-is ∙ step-log c (omega arith) (pointers copies p s) copies 0);
+          log = rw step-stores (log-is ∙ step-log c (omega arith) (pointers layout p s) (layout .copies) 0);
           exact = rw step-stores (exact-stored (exact .ready) (c + 1) (exact .marks) (exact .sound) (calm .done));
           tally = rw step-stores tally-is;
           others = rw step-stores others-are;

@@ -5,17 +5,16 @@
 --   lies-most                 of different values at most as many lie in an interval as it has numbers
 use Prim.Native.Nat.{ℕ, zero, suc, _+_, _≤_, _<_}
 use mathlib.Core.Path.{_≡_, refl, sym, ap, _∙_}
-use mathlib.Core.Bool.{Bool}
+use mathlib.Core.Bool.{Bool, cond}
 use native.Mathlib.Nat.{zero-add}
 use native.Mathlib.Decide.{ℕ-discrete, decLe, decLt}
 use native.Mathlib.Omega.{arith}
 use lib.Dec.{leb, ltb, eqb}
 use borrow.Author.Tests.{eq-eqb, ne-eqb, le-leb, lt-leb, lt-ltb, le-ltb}
-use Rattle.cells.specs.Chip.{pick}
 
 -- one where a value lies in the interval of m numbers from one on, else none
 abbrev pub lies : ℕ → ℕ → ℕ → ℕ
-lies from m x = pick (leb from x) (pick (ltb x (from + m)) 1 0) 0
+lies from m x = cond (leb from x) (cond (ltb x (from + m)) 1 0) 0
 
 module _ (from m x : ℕ) where
   pub lies-in : from ≤ x → x < from + m → lies from m x ≡ 1
@@ -31,7 +30,7 @@ module _ (from m x : ℕ) where
 
 -- one where a value is a number, else none
 abbrev is : ℕ → ℕ → ℕ
-is a x = pick (eqb x a) 1 0
+is a x = cond (eqb x a) 1 0
 
 -- one number more
 lies-suc : (from m x : ℕ) → lies from (suc m) x ≡ is (from + m) x + lies from m x
@@ -71,7 +70,7 @@ is-most (suc n) f a apart = go (ℕ-discrete (f n) a) (is-most n f a (λ i j l m
   where
     go : Dec (f n ≡ a) → total n (λ k. is a (f k)) ≤ 1 → is a (f n) + total n (λ k. is a (f k)) ≤ 1
     go (yes e) h =
-        let others = total-none n (λ k. is a (f k)) (λ k l. ap (λ (t : Bool). pick t 1 0) (ne-eqb (f k) a (λ q. apart k n (omega arith) (omega arith) (λ r. omega arith) (q ∙ sym e)))) in
+        let others = total-none n (λ k. is a (f k)) (λ k l. ap (λ (t : Bool). cond t 1 0) (ne-eqb (f k) a (λ q. apart k n (omega arith) (omega arith) (λ r. omega arith) (q ∙ sym e)))) in
         rw (others, eq-eqb _ _ e) (omega arith)
     go (no d) h = rw (ne-eqb _ _ d, zero-add) h
 

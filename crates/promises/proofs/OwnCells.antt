@@ -4,14 +4,15 @@ use Prim.Native.Nat.{ℕ}
 use Rattle.cells.specs.Chip.{Chip, Kept}
 use Rattle.cells.proofs.Logs.{within-kept}
 use Rattle.counter.specs.declared.places.Places.{Places}
+use Rattle.counter.specs.Layout.{Layout}
 use Rattle.counter.specs.Doors.{openOf, stepOf}
 use Rattle.counter.proofs.Ready.{Own}
 use Rattle.counter.proofs.DoorAnswers.{open-is, step-is}
 use Rattle.promises.proofs.DoorRuns.{open-laws, step-laws}
 
-module _ (copies : ℕ) (p : Places) (s : Chip) where
-  pub open-keeps : Kept (Own copies p) s (openOf copies p s .leaves)
-  open-keeps = rw (open-is copies p s) (within-kept (open-laws copies p s .within))
+module _ (layout : Layout) (p : Places) (s : Chip) where
+  pub open-keeps : Kept (Own layout p) s (openOf layout p s .leaves)
+  open-keeps = rw (open-is layout p s) (within-kept (open-laws layout p s .within))
 
-  pub step-keeps : Kept (Own copies p) s (stepOf copies p s .leaves)
-  step-keeps = rw (step-is copies p s) (within-kept (step-laws copies p s .within))
+  pub step-keeps : Kept (Own layout p) s (stepOf layout p s .leaves)
+  step-keeps = rw (step-is layout p s) (within-kept (step-laws layout p s .within))

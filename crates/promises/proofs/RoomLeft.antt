@@ -9,7 +9,8 @@ use Rattle.counter.specs.declared.map.Kind.{Kind}
 use Rattle.counter.specs.declared.map.Kind.the-variants.{High, Low}
 use Rattle.counter.specs.declared.places.Places.{Places}
 use Rattle.counter.specs.declared.spares.Gap.{Gap}
-use Rattle.counter.specs.Slots.{slots, kindOf}
+use Rattle.counter.specs.Layout.{Layout, slots}
+use Rattle.counter.specs.Slots.{kindOf}
 use Rattle.promises.specs.Runs.{areaCells}
 use Rattle.counter.proofs.SoundPointers.{Sound}
 use Rattle.counter.proofs.Gaps.{Between, between-map, between-ordered}
@@ -53,5 +54,5 @@ module _ {n : ℕ} {p : Places} {pointer : ℕ → ℕ} {g : Gap} (fits : p .sta
       let end = between .end in
       omega arith
 
-pub exact-room : {copies : ℕ} {p : Places} {c : ℕ} {s : Chip} → Exact copies p c s → roomOf copies p s + slots copies ≤ areaCells p
-exact-room {copies} {p} {c} {s} exact = sound-room (start-fits (exact .ready)) (exact .sound) (between-map copies p (pointers copies p s))
+pub exact-room : {layout : Layout} {p : Places} {c : ℕ} {s : Chip} → Exact layout p c s → roomOf layout p s + slots layout ≤ areaCells p
+exact-room {layout} {p} {c} {s} exact = sound-room (start-fits (exact .ready)) (exact .sound) (between-map layout p (pointers layout p s))

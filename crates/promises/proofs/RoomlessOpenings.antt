@@ -3,6 +3,7 @@
 --   OpeningFull, opening-roomless
 use Prim.Native.Nat.{ℕ, zero, suc, _+_, _<_}
 use mathlib.Core.Path.{_≡_, sym, ap, _∙_}
+use mathlib.Core.Bool.{true≢false}
 use mathlib.Core.List.{List}
 use mathlib.Core.Logic.{_⊎_, inl, inr, _↔_}
 use native.Mathlib.Nat.{add-zero, zero-add}
@@ -20,7 +21,8 @@ use Rattle.counter.specs.declared.spares.Gap.{Gap}
 use Rattle.counter.specs.declared.verdict.Work.{Work}
 use Rattle.counter.specs.declared.verdict.Work.the-variants.{Done, Stopped}
 use Rattle.counter.specs.declared.verdict.Refusal.the-variants.{NoSpare}
-use Rattle.counter.specs.Slots.{slots, kindOf}
+use Rattle.counter.specs.Layout.{Layout, slots}
+use Rattle.counter.specs.Slots.{kindOf}
 use Rattle.counter.specs.Spares.{wholeArea, narrow}
 use Rattle.counter.specs.Verdict.{_andThen_}
 use Rattle.counter.specs.Store.{trySpares}
@@ -36,8 +38,8 @@ use Rattle.counter.proofs.Openings.{MapEnded, MapEnded.put, MapEnded.failed, ma
 use Rattle.promises.proofs.Room.{take-roomless}
 
 -- the slots before k took their addresses, and then every spare that these leave for slot k refuses the code of 0
-pub record OpeningFull (copies : ℕ) (p : Places) (k : ℕ) (s : Chip) : Type 0 where
-  pub inside : k < slots copies
+pub record OpeningFull (layout : Layout) (p : Places) (k : ℕ) (s : Chip) : Type 0 where
+  pub inside : k < slots layout
   pub before : takeFrom k 0 (wholeArea p) s .answer .work ≡ Done
   pub full :
       (a : ℕ) → Spare (kindOf k) k p (λ j. getD (takeFrom k 0 (wholeArea p) s .answer .addresses) j 0) a
@@ -137,36 +139,36 @@ take-only (suc n) k g s j paired e = go (take-only n (k + 1)) (try-laws k g (cod
     go later (landing t) =
         there t (later (narrow (kindOf k) (t .place) g) (trySpares k g (codeOf 0) s .after) j (kept-paired (t .kept) paired) (sym (ap (λ (r : Run Taken). r .answer .work) (take-landing n k g s (t .place) (t .here))) ∙ e))
 
-module _ {copies : ℕ} {p : Places} {s : Chip} (ready : Ready copies p s) where
+module _ {layout : Layout} {p : Places} {s : Chip} (ready : Ready layout p s) where
   abbrev taking : Run Taken
-  taking = takeFrom (slots copies) 0 (wholeArea p) s
+  taking = takeFrom (slots layout) 0 (wholeArea p) s
 
   abbrev mapping : Chip → Run Work
   mapping t = putPointers (taking .answer .addresses) 0 p t andThen putMark p
 
-  takes : Takes (slots copies) 0 (wholeArea p) s taking
-  takes = take-laws (slots copies) 0 (wholeArea p) s (ready .paired)
+  takes : Takes (slots layout) 0 (wholeArea p) s taking
+  takes = take-laws (slots layout) 0 (wholeArea p) s (ready .paired)
 
   -- an opening that found no spare ended its taking so
-  opening-taking : (j : ℕ) → firstOpening copies p s .answer ≡ Stopped (NoSpare j) → taking .answer .work ≡ Stopped (NoSpare j)
+  opening-taking : (j : ℕ) → firstOpening layout p s .answer ≡ Stopped (NoSpare j) → taking .answer .work ≡ Stopped (NoSpare j)
   opening-taking j e = go (takes .either)
     where
       mapped-out : MapEnded (mapping (taking .after) .answer) → mapping (taking .after) .answer ≡ Stopped (NoSpare j) → ⊥
-      mapped-out (put d) q = let z : _≡_ {A = ℕ} 0 1 = cc in omega arith
-      mapped-out (failed a d) q = let z : _≡_ {A = ℕ} 0 1 = cc in omega arith
+      mapped-out (put d) q = true≢false cc
+      mapped-out (failed a d) q = true≢false cc
 
       go : (taking .answer .work ≡ Done) ⊎ ((i : ℕ) × (taking .answer .work ≡ Stopped (NoSpare i))) → taking .answer .work ≡ Stopped (NoSpare j)
       go (inl d) =
           let maps = maps-laws (ready-kept ready (within-kept (takes .within))) (taking .answer .addresses) (takes .all d .many) in
-          absurd (mapped-out (maps .ended) (sym (ap (λ (w : Run Work). w .answer) (opening-on copies p s d)) ∙ e))
-      go (inr (i, d)) = sym (ap (λ (w : Run Work). w .answer) (opening-ends copies p s d)) ∙ e
+          absurd (mapped-out (maps .ended) (sym (ap (λ (w : Run Work). w .answer) (opening-on layout p s d)) ∙ e))
+      go (inr (i, d)) = sym (ap (λ (w : Run Work). w .answer) (opening-ends layout p s d)) ∙ e
 
-  pub opening-roomless : (k : ℕ) → (firstOpening copies p s .answer ≡ Stopped (NoSpare k)) ↔ OpeningFull copies p k s
+  pub opening-roomless : (k : ℕ) → (firstOpening layout p s .answer ≡ Stopped (NoSpare k)) ↔ OpeningFull layout p k s
   opening-roomless k = (only, always)
     where
-      only : firstOpening copies p s .answer ≡ Stopped (NoSpare k) → OpeningFull copies p k s
+      only : firstOpening layout p s .answer ≡ Stopped (NoSpare k) → OpeningFull layout p k s
       only e =
-          let x = take-only (slots copies) 0 (wholeArea p) s k (ready .paired) (opening-taking k e) in
+          let x = take-only (slots layout) 0 (wholeArea p) s k (ready .paired) (opening-taking k e) in
           let same : x .many ≡ k = sym (x .slot ∙ zero-add (x .many)) in
           let pointer = listed (takeFrom (x .many) 0 (wholeArea p) s .answer .addresses) in
           record {
@@ -175,11 +177,11 @@ module _ {copies : ℕ} {p : Places} {s : Chip} (ready : Ready copies p s) where
             full = rw same at (x .bare p pointer (λ i l. ap pointer (zero-add i)) (between-none p pointer));
           }
 
-      always : OpeningFull copies p k s → firstOpening copies p s .answer ≡ Stopped (NoSpare k)
+      always : OpeningFull layout p k s → firstOpening layout p s .answer ≡ Stopped (NoSpare k)
       always f =
           let pointer = listed (takeFrom k 0 (wholeArea p) s .answer .addresses) in
           let same = zero-add k in
           let stops =
-          take-always k (slots copies) 0 (wholeArea p) s p pointer (f .inside) (ready .paired) (f .before) (λ j l. ap pointer (zero-add j)) (between-none p pointer) (rw same (f .full))
+          take-always k (slots layout) 0 (wholeArea p) s p pointer (f .inside) (ready .paired) (f .before) (λ j l. ap pointer (zero-add j)) (between-none p pointer) (rw same (f .full))
           ∙ ap (λ (j : ℕ). Stopped (NoSpare j)) same in
-          ap (λ (r : Run Work). r .answer) (opening-ends copies p s stops) ∙ stops
+          ap (λ (r : Run Work). r .answer) (opening-ends layout p s stops) ∙ stops

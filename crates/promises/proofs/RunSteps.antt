@@ -13,6 +13,7 @@ use Rattle.counter.specs.declared.places.Places.{Places}
 use Rattle.counter.specs.declared.verdict.Answer.{Answer}
 use Rattle.counter.specs.declared.verdict.Verdict.{Verdict}
 use Rattle.counter.specs.declared.verdict.Verdict.the-variants.{Good, Refused}
+use Rattle.counter.specs.Layout.{Layout}
 use Rattle.counter.specs.Verdict.{outcomeOf}
 use Rattle.counter.specs.Doors.{stepRun}
 use Rattle.promises.specs.Runs.{onward, stepsUpTo}
@@ -22,10 +23,10 @@ use Rattle.promises.proofs.DoorRuns.{step-laws}
 
 -- a step, and the others as it ended
 pub steps-next :
-    (n copies : ℕ) (p : Places) (s : Chip) {v : Verdict} → stepRun copies p s .answer ≡ v
-    → stepsUpTo (suc n) copies p s ≡ onward v (stepRun copies p s) (stepsUpTo n copies p (stepRun copies p s .after))
+    (n : ℕ) (layout : Layout) (p : Places) (s : Chip) {v : Verdict} → stepRun layout p s .answer ≡ v
+    → stepsUpTo (suc n) layout p s ≡ onward v (stepRun layout p s) (stepsUpTo n layout p (stepRun layout p s .after))
 unfolding stepsUpTo
-steps-next n copies p s e = rw e
+steps-next n layout p s e = rw e
 
 -- at most n answers, each good but perhaps the last; fewer only where that one is a refusal
 pub data Made : ℕ → List Answer → Type 0 where
@@ -39,12 +40,12 @@ onward-made :
 onward-made (Good c lag) r rest e made = good {a = outcomeOf r .says} (ap (λ (a : Answer). a .code) (good-says r e)) made
 onward-made (Refused why) r rest e made = refused {a = outcomeOf r .says} (refused-code r e)
 
-pub steps-made : (n copies : ℕ) (p : Places) (s : Chip) → Made n (stepsUpTo n copies p s .answer)
+pub steps-made : (n : ℕ) (layout : Layout) (p : Places) (s : Chip) → Made n (stepsUpTo n layout p s .answer)
 unfolding stepsUpTo
-steps-made zero copies p s = all
-steps-made (suc n) copies p s =
-    let r = stepRun copies p s in
-    onward-made (r .answer) r (stepsUpTo n copies p (r .after)) refl (steps-made n copies p (r .after))
+steps-made zero layout p s = all
+steps-made (suc n) layout p s =
+    let r = stepRun layout p s in
+    onward-made (r .answer) r (stepsUpTo n layout p (r .after)) refl (steps-made n layout p (r .after))
 
 -- a step and the others, or that step alone
 onward-within :
@@ -53,7 +54,7 @@ onward-within :
 onward-within (Good c lag) w w′ = within-giving _ (within-then w w′)
 onward-within (Refused why) w w′ = within-giving _ w
 
-pub steps-within : (n copies : ℕ) (p : Places) (s : Chip) → Within (Own copies p) s (stepsUpTo n copies p s)
+pub steps-within : (n : ℕ) (layout : Layout) (p : Places) (s : Chip) → Within (Own layout p) s (stepsUpTo n layout p s)
 unfolding stepsUpTo
-steps-within zero copies p s = within-still [] s
-steps-within (suc n) copies p s = onward-within (stepRun copies p s .answer) (step-laws copies p s .within) (steps-within n copies p (stepRun copies p s .after))
+steps-within zero layout p s = within-still [] s
+steps-within (suc n) layout p s = onward-within (stepRun layout p s .answer) (step-laws layout p s .within) (steps-within n layout p (stepRun layout p s .after))

@@ -8,7 +8,8 @@ use Rattle.cells.specs.Put.{putAt}
 use Rattle.cells.specs.Row.{next, tryAt, walk, putRow}
 use Rattle.counter.specs.declared.places.Places.{Places}
 use Rattle.counter.specs.declared.verdict.Work.the-variants.{Done}
-use Rattle.counter.specs.Slots.{two, kindOf}
+use Rattle.counter.specs.Layout.{two}
+use Rattle.counter.specs.Slots.{kindOf}
 use Rattle.counter.specs.Places.{places, lengthGood, placesGood}
 use Rattle.counter.specs.Map.{offsetIn, offsetOf, pointerBytes}
 use Rattle.counter.specs.Spares.{wholeArea, narrow, wayOf, nextOf, sparesOf}

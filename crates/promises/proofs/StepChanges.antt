@@ -3,14 +3,14 @@
 --   step-changes              so as many slots change as there are copies
 use Prim.Native.Nat.{ℕ, zero, suc, _+_, _-_, _/_, _%_, _^_, _<_}
 use mathlib.Core.Path.{_≡_}
+use mathlib.Core.Bool.{cond}
 use native.Mathlib.Nat.{add-zero, zero-add}
 use native.Mathlib.Decide.{ℕ-discrete}
 use native.Mathlib.Omega.{arith}
 use borrow.Author.Tests.{eq-eqb, ne-eqb}
 use lib.Dec.{eqb}
 use Rattle.code.proofs.ChangeLaws.{step-nibble-small}
-use Rattle.cells.specs.Chip.{pick}
-use Rattle.counter.specs.Slots.{slots}
+use Rattle.counter.specs.Layout.{Layout, slots}
 use Rattle.counter.specs.Store.{slotCode}
 use Rattle.counter.proofs.Moves.{change}
 use Rattle.counter.proofs.Stores.{changes}
@@ -19,10 +19,10 @@ use Rattle.counter.proofs.NextStores.{changedNibble, step-changed, step-stays}
 
 module _ (c : ℕ) (small : c + 1 < 2 ^ 32) where
   -- a slot changes by one byte where its nibble is the changed one
-  pub change-step : (k : ℕ) → change (slotCode c k) (slotCode (c + 1) k) ≡ pick (eqb (k % 8) (changedNibble c)) 1 0
+  pub change-step : (k : ℕ) → change (slotCode c k) (slotCode (c + 1) k) ≡ cond (eqb (k % 8) (changedNibble c)) 1 0
   change-step k = go (ℕ-discrete (k % 8) (changedNibble c))
     where
-      go : Dec (k % 8 ≡ changedNibble c) → change (slotCode c k) (slotCode (c + 1) k) ≡ pick (eqb (k % 8) (changedNibble c)) 1 0
+      go : Dec (k % 8 ≡ changedNibble c) → change (slotCode c k) (slotCode (c + 1) k) ≡ cond (eqb (k % 8) (changedNibble c)) 1 0
       go (yes e) = rw (ne-eqb _ _ (step-changed c small k e), eq-eqb _ _ e)
       go (no n) = rw (eq-eqb _ _ (step-stays c small k n), ne-eqb _ _ n)
 
@@ -41,5 +41,5 @@ module _ (c : ℕ) (small : c + 1 < 2 ^ 32) where
       let e : k + suc n ≡ k + 1 + n = omega arith in
       rw (e, changes-next) (omega arith)
 
-  pub step-changes : (copies : ℕ) → changes (slots copies) 0 (slotCode c) (slotCode (c + 1)) ≡ copies
-  step-changes copies = let h = changes-are (slots copies) 0 in let h′ = step-nibble-small c small in omega arith
+  pub step-changes : (layout : Layout) → changes (slots layout) 0 (slotCode c) (slotCode (c + 1)) ≡ layout .copies
+  step-changes layout = let h = changes-are (slots layout) 0 in let h′ = step-nibble-small c small in omega arith

@@ -8,6 +8,7 @@ use Rattle.cells.specs.Run.{Run}
 use Rattle.counter.specs.declared.places.Places.{Places}
 use Rattle.counter.specs.declared.verdict.Answer.{Answer}
 use Rattle.counter.specs.declared.verdict.Verdict.{Verdict}
+use Rattle.counter.specs.Layout.{Layout}
 use Rattle.counter.specs.Verdict.{outcomeOf}
 use Rattle.counter.specs.Doors.{openRun, stepRun, openOf, stepOf}
 use Rattle.counter.proofs.DoorAnswers.{good-says, spareless-code, mapless-code, open-is, step-is}
@@ -15,7 +16,7 @@ use Rattle.promises.proofs.DoorRuns.{Comes, Comes.untouched, Comes.spar
 
 -- a call that is neither good nor stopped while it stored
 run-untouched :
-    {copies : ℕ} {p : Places} {s : Chip} (r : Run Verdict) → Comes copies p s r
+    {layout : Layout} {p : Places} {s : Chip} (r : Run Verdict) → Comes layout p s r
     → (outcomeOf r .says .code ≡ 0 → ⊥) → (outcomeOf r .says .code ≡ 8 → ⊥) → (outcomeOf r .says .code ≡ 9 → ⊥)
     → r .after ≡ s
 run-untouched r (untouched why e) zero eight nine = ap (λ (q : Run Verdict). q .after) e
@@ -23,13 +24,13 @@ run-untouched r (spareless k e) zero eight nine = absurd (eight (spareless-code 
 run-untouched r (mapless a e) zero eight nine = absurd (nine (mapless-code r e))
 run-untouched r (good c lag e small exact) zero eight nine = absurd (zero (ap (λ (a : Answer). a .code) (good-says r e)))
 
-module _ (copies : ℕ) (p : Places) (s : Chip) where
+module _ (layout : Layout) (p : Places) (s : Chip) where
   pub open-untouched :
-      (openOf copies p s .says .code ≡ 0 → ⊥) → (openOf copies p s .says .code ≡ 8 → ⊥)
-      → (openOf copies p s .says .code ≡ 9 → ⊥) → openOf copies p s .leaves ≡ s
-  open-untouched = rw (open-is copies p s) (run-untouched (openRun copies p s) (open-laws copies p s .comes))
+      (openOf layout p s .says .code ≡ 0 → ⊥) → (openOf layout p s .says .code ≡ 8 → ⊥)
+      → (openOf layout p s .says .code ≡ 9 → ⊥) → openOf layout p s .leaves ≡ s
+  open-untouched = rw (open-is layout p s) (run-untouched (openRun layout p s) (open-laws layout p s .comes))
 
   pub step-untouched :
-      (stepOf copies p s .says .code ≡ 0 → ⊥) → (stepOf copies p s .says .code ≡ 8 → ⊥)
-      → (stepOf copies p s .says .code ≡ 9 → ⊥) → stepOf copies p s .leaves ≡ s
-  step-untouched = rw (step-is copies p s) (run-untouched (stepRun copies p s) (step-laws copies p s .comes))
+      (stepOf layout p s .says .code ≡ 0 → ⊥) → (stepOf layout p s .says .code ≡ 8 → ⊥)
+      → (stepOf layout p s .says .code ≡ 9 → ⊥) → stepOf layout p s .leaves ≡ s
+  step-untouched = rw (step-is layout p s) (run-untouched (stepRun layout p s) (step-laws layout p s .comes))

@@ -4,18 +4,18 @@
 --   fresh-lasts               a fresh chip lasts for n steps
 use Prim.Native.Nat.{ℕ, zero, suc, _+_, _*_, _%_, _^_, _≤_, _<_}
 use mathlib.Core.Path.{_≡_, refl, ap, _∙_}
-use mathlib.Core.Bool.{Bool, true, false}
+use mathlib.Core.Bool.{Bool, true, false, cond}
 use native.Mathlib.Nat.{add-zero, zero-add, div-le-self}
 use native.Mathlib.Omega.{arith}
 use lib.Dec.{eqb}
 use lib.IntN.{pos}
 use lib.ListN.{length}
 use Rattle.code.proofs.ChangeLaws.{step-nibble-small}
-use Rattle.cells.specs.Chip.{Chip, lifeAt, pick}
+use Rattle.cells.specs.Chip.{Chip, lifeAt}
 use Rattle.cells.specs.Log.{askedOf}
 use Rattle.cells.proofs.Logs.{asked-none, asked-append, within-life}
 use Rattle.counter.specs.declared.places.Places.{Places}
-use Rattle.counter.specs.Slots.{slots}
+use Rattle.counter.specs.Layout.{Layout, slots}
 use Rattle.counter.specs.Map.{mapIn}
 use Rattle.counter.specs.Verdict.{answer, outcomeOf}
 use Rattle.counter.specs.Doors.{lastCount, openRun, stepRun, openOf}
@@ -38,43 +38,43 @@ step-length zero copy pointer c = refl
 step-length (suc n) copy pointer c = ap suc (step-length n (copy + 1) pointer c)
 
 pub step-says :
-    {copies : ℕ} {p : Places} {c : ℕ} {s : Chip} → StepCalm copies p c s
-    → outcomeOf (stepRun copies p s) .says ≡ answer 0 (c + 1) (pos 0) 0 copies 0
-step-says {copies} {p} {c} {s} calm = rw (good-says (stepRun copies p s) (calm .answers), calm .tried, calm .log, step-length)
+    {layout : Layout} {p : Places} {c : ℕ} {s : Chip} → StepCalm layout p c s
+    → outcomeOf (stepRun layout p s) .says ≡ answer 0 (c + 1) (pos 0) 0 (layout .copies) 0
+step-says {layout} {p} {c} {s} calm = rw (good-says (stepRun layout p s) (calm .answers), calm .tried, calm .log, step-length)
 
-pub record StepsCalm (n copies : ℕ) (p : Places) (c : ℕ) (s : Chip) : Type 0 where
-  pub answers : stepsUpTo n copies p s .answer ≡ counting n copies c
-  pub map : mapIn copies p (stepsUpTo n copies p s .after .cells) ≡ mapIn copies p (s .cells)
+pub record StepsCalm (n : ℕ) (layout : Layout) (p : Places) (c : ℕ) (s : Chip) : Type 0 where
+  pub answers : stepsUpTo n layout p s .answer ≡ counting n layout c
+  pub map : mapIn layout p (stepsUpTo n layout p s .after .cells) ≡ mapIn layout p (s .cells)
   pub tally :
-      (j : ℕ) → j < slots copies
-      → askedOf (pointers copies p s j) (stepsUpTo n copies p s .log) + writesOf c (j % 8) ≡ writesOf (c + n) (j % 8)
+      (j : ℕ) → j < slots layout
+      → askedOf (pointers layout p s j) (stepsUpTo n layout p s .log) + writesOf c (j % 8) ≡ writesOf (c + n) (j % 8)
 
 -- every slot's cell has so many good writes
-abbrev pub LiveFor : ℕ → ℕ → Places → Chip → Type 0
-LiveFor n copies p s = (j : ℕ) → j < slots copies → n ≤ lifeAt s (pointers copies p s j)
+abbrev pub LiveFor : ℕ → Layout → Places → Chip → Type 0
+LiveFor n layout p s = (j : ℕ) → j < slots layout → n ≤ lifeAt s (pointers layout p s j)
 
 -- one or none
-one-most : (t : Bool) → pick t 1 0 ≤ 1
+one-most : (t : Bool) → cond t 1 0 ≤ 1
 one-most true = omega arith
 one-most false = omega arith
 
-module _ {copies : ℕ} {p : Places} where
-  none-calm : (c : ℕ) (s : Chip) → StepsCalm 0 copies p c s
+module _ {layout : Layout} {p : Places} where
+  none-calm : (c : ℕ) (s : Chip) → StepsCalm 0 layout p c s
   unfolding stepsUpTo counting
   none-calm c s = record { answers = refl; map = refl; tally = λ j l. rw (asked-none, zero-add, add-zero) }
 
-  module _ (n : ℕ) {c : ℕ} {s : Chip} (calm : StepCalm copies p c s) (small : c + 1 < 2 ^ 32) where
-    next-live : LiveFor (suc n) copies p s → LiveFor n copies p (stepRun copies p s .after)
+  module _ (n : ℕ) {c : ℕ} {s : Chip} (calm : StepCalm layout p c s) (small : c + 1 < 2 ^ 32) where
+    next-live : LiveFor (suc n) layout p s → LiveFor n layout p (stepRun layout p s .after)
     next-live live j l =
         let most = one-most (eqb (j % 8) (changedNibble c)) in
         let h = live j l in
-        let e = within-life (step-laws copies p s .within) (pointers copies p s j) in
+        let e = within-life (step-laws layout p s .within) (pointers layout p s j) in
         rw (calm .map) (omega (arith, calm .tally j l))
 
-    more-calm : StepsCalm n copies p (c + 1) (stepRun copies p s .after) → StepsCalm (suc n) copies p c s
+    more-calm : StepsCalm n layout p (c + 1) (stepRun layout p s .after) → StepsCalm (suc n) layout p c s
     unfolding counting
     more-calm rest =
-        let on = steps-next n copies p s (calm .answers) in
+        let on = steps-next n layout p s (calm .answers) in
         record {
           answers = rw (on, rest .answers, step-says calm);
           map = rw on (rest .map ∙ calm .map);
@@ -85,10 +85,10 @@ module _ {copies : ℕ} {p : Places} where
         }
 
 pub steps-calm :
-    (n : ℕ) {copies : ℕ} {p : Places} {c : ℕ} {s : Chip} → 1 ≤ copies → c + n ≤ lastCount → Exact copies p c s
-    → LiveFor n copies p s → StepsCalm n copies p c s
-steps-calm zero {copies} {p} {c} {s} one fits exact live = none-calm c s
-steps-calm (suc n) {copies} {p} {c} {s} one fits exact live =
+    (n : ℕ) {layout : Layout} {p : Places} {c : ℕ} {s : Chip} → 1 ≤ layout .copies → c + n ≤ lastCount → Exact layout p c s
+    → LiveFor n layout p s → StepsCalm n layout p c s
+steps-calm zero {layout} {p} {c} {s} one fits exact live = none-calm c s
+steps-calm (suc n) {layout} {p} {c} {s} one fits exact live =
     let small = step-nibble-small c (omega arith) in
     let calm = step-calm one (omega arith) exact (λ copy l. let h = live (8 * copy + changedNibble c) (omega arith) in omega arith) in
     more-calm n calm (omega arith) (steps-calm n one (omega arith) (calm .exact) (next-live n calm (omega arith) live))
@@ -100,47 +100,47 @@ writes-most : (n k : ℕ) → writesOf n k ≤ n
 unfolding writesOf
 writes-most n k = let h = div-le-self n (16 ^ k) in omega arith
 
-module _ {n copies : ℕ} {p : Places} {s : Chip} (fresh : Fresh n copies p s) where
-  fresh-ready : Ready copies p s
+module _ {n : ℕ} {layout : Layout} {p : Places} {s : Chip} (fresh : Fresh n layout p s) where
+  fresh-ready : Ready layout p s
   fresh-ready = tests-ready (fresh .lives) (fresh .long) (fresh .places)
 
-  opening : OpenCalm copies p s
+  opening : OpenCalm layout p s
   opening = open-calm (record { ready = fresh-ready; blank = fresh .blank; alive = λ a l. let h = fresh .lasting a l in omega arith })
 
-  opens : openOf copies p s .says ≡ answer 0 0 (pos 0) 0 (length (openRun copies p s .log)) 0
-  opens = rw (open-is copies p s, good-says (openRun copies p s) (opening .answers), opening .tried)
+  opens : openOf layout p s .says ≡ answer 0 0 (pos 0) 0 (length (openRun layout p s .log)) 0
+  opens = rw (open-is layout p s, good-says (openRun layout p s) (opening .answers), opening .tried)
 
   -- the opening takes one good write from each slot's cell, and leaves n
   abbrev slotCell : ℕ → ℕ
-  slotCell j = pointers copies p (opened copies p s) j
+  slotCell j = pointers layout p (opened layout p s) j
 
-  slot-lasting : (j : ℕ) → j < slots copies → n + 1 ≤ lifeAt s (slotCell j)
+  slot-lasting : (j : ℕ) → j < slots layout → n + 1 ≤ lifeAt s (slotCell j)
   slot-lasting j l = fresh .lasting _ (inside-cell fresh-ready (opening .exact .sound .inside j l))
 
-  opened-life : (j : ℕ) → j < slots copies → lifeAt (opened copies p s) (slotCell j) + 1 ≡ lifeAt s (slotCell j)
+  opened-life : (j : ℕ) → j < slots layout → lifeAt (opened layout p s) (slotCell j) + 1 ≡ lifeAt s (slotCell j)
   opened-life j l =
-      let left = within-life (open-laws copies p s .within) (slotCell j) in
+      let left = within-life (open-laws layout p s .within) (slotCell j) in
       let one = opening .asked j l in
       let had = slot-lasting j l in
       omega arith
 
-  opened-live : LiveFor n copies p (opened copies p s)
+  opened-live : LiveFor n layout p (opened layout p s)
   opened-live j l = let had = slot-lasting j l in omega (arith, opened-life j l)
 
-  module _ (one : 1 ≤ copies) (few : n ≤ lastCount) where
-    steps : StepsCalm n copies p 0 (opened copies p s)
+  module _ (one : 1 ≤ layout .copies) (few : n ≤ lastCount) where
+    steps : StepsCalm n layout p 0 (opened layout p s)
     steps = steps-calm n one (omega arith) (opening .exact) opened-live
 
-    worn : (copy k : ℕ) → copy < copies → k < 8 → Worn n copies p s copy k
+    worn : (copy k : ℕ) → copy < layout .copies → k < 8 → Worn n layout p s copy k
     worn copy k l m =
         let nibble : (8 * copy + k) % 8 ≡ k = omega arith in
         let tally = rw (nibble, zero-add n) at (steps .tally (8 * copy + k) (omega arith)) in
         let none = writes-none k in
         let most = writes-most n k in
-        let left = within-life (steps-within n copies p (opened copies p s)) (cellOf copies p s copy k) in
+        let left = within-life (steps-within n layout p (opened layout p s)) (cellOf layout p s copy k) in
         let had = opened-life (8 * copy + k) (omega arith) in
         let lasting = opened-live (8 * copy + k) (omega arith) in
         record { first = opening .asked (8 * copy + k) (omega arith); written = omega arith; life = omega arith }
 
-    pub fresh-lasts : Lasts n copies p s
+    pub fresh-lasts : Lasts n layout p s
     fresh-lasts = record { opens = opens; answers = steps .answers; map = steps .map; worn = worn }

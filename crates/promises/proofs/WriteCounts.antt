@@ -3,6 +3,7 @@
 --   writes-step               a step more
 use Prim.Native.Nat.{ℕ, zero, suc, _+_, _-_, _*_, _/_, _%_, _^_, _<_}
 use mathlib.Core.Path.{_≡_, refl, sym, _∙_}
+use mathlib.Core.Bool.{cond}
 use native.Mathlib.Nat.{zero-add, add-zero, zero-mul, add-mul, one-mul, suc-mul, mul-comm, zero-div, pow-suc, mod-lt, div-add-mod', div-div-eq-div-mul}
 use native.Mathlib.Numerals.{add-one}
 use native.Mathlib.Decide.{ℕ-discrete}
@@ -12,7 +13,6 @@ use lib.Dec.{eqb, lit<}
 use borrow.Author.Tests.{eq-eqb, ne-eqb}
 use Rattle.code.proofs.NibbleLaws.{sixteens-positive}
 use Rattle.code.proofs.ChangeLaws.{step-nibble-divides}
-use Rattle.cells.specs.Chip.{pick}
 use Rattle.promises.specs.Runs.{writesOf}
 use Rattle.counter.proofs.NextStores.{changedNibble}
 
@@ -88,9 +88,9 @@ module _ (c : ℕ) (small : c + 1 < 2 ^ 32) (k : ℕ) where
       go (yes e) = let even = next-whole z e in rw (quotient c k, quotient (c + 1) k) (omega arith)
       go (no n) = absurd (d (step-nibble-divides c k small .1 (z, n)))
 
-  pub writes-step : writesOf (c + 1) k ≡ pick (eqb k (changedNibble c)) 1 0 + writesOf c k
+  pub writes-step : writesOf (c + 1) k ≡ cond (eqb k (changedNibble c)) 1 0 + writesOf c k
   writes-step = go (ℕ-discrete k (changedNibble c))
     where
-      go : Dec (k ≡ changedNibble c) → writesOf (c + 1) k ≡ pick (eqb k (changedNibble c)) 1 0 + writesOf c k
+      go : Dec (k ≡ changedNibble c) → writesOf (c + 1) k ≡ cond (eqb k (changedNibble c)) 1 0 + writesOf c k
       go (yes e) = rw (eq-eqb _ _ e) (here e (next c (16 ^ k) (sixteens-positive k)))
       go (no d) = rw (ne-eqb _ _ d, zero-add) (elsewhere d (next c (16 ^ k) (sixteens-positive k)))

@@ -13,7 +13,7 @@ use Rattle.counter.specs.declared.places.Places.{Places}
 use Rattle.counter.specs.declared.verdict.Answer.{Answer}
 use Rattle.counter.specs.declared.verdict.Verdict.{Verdict}
 use Rattle.counter.specs.declared.verdict.Verdict.the-variants.{Good, Refused}
-use Rattle.counter.specs.Slots.{slots}
+use Rattle.counter.specs.Layout.{Layout, slots}
 use Rattle.counter.specs.Places.{lengthGood, placesGood, livesGood}
 use Rattle.counter.specs.Map.{mapIn, pointerOf}
 use Rattle.counter.specs.Verdict.{answer, outcomeOf}
@@ -27,57 +27,57 @@ onward (Good count lag) r rest = r then rest giving outcomeOf r .says ∷ rest .
 onward (Refused why) r rest = r giving outcomeOf r .says ∷ []
 
 -- steps up to and including the first refused one, at most n: what each answered. As many were made as there are answers.
-unfoldable pub stepsUpTo : ℕ → ℕ → Places → Chip → Run (List Answer)
-stepsUpTo zero copies p s = still [] s
-stepsUpTo (suc n) copies p s =
-    let r = stepRun copies p s in
-    let rest = stepsUpTo n copies p (r .after) in
+unfoldable pub stepsUpTo : ℕ → Layout → Places → Chip → Run (List Answer)
+stepsUpTo zero layout p s = still [] s
+stepsUpTo (suc n) layout p s =
+    let r = stepRun layout p s in
+    let rest = stepsUpTo n layout p (r .after) in
     onward (r .answer) r rest
 
 -- the chip as an opening leaves it, and the steps made on it
-abbrev pub opened : ℕ → Places → Chip → Chip
-opened copies p s = openRun copies p s .after
+abbrev pub opened : Layout → Places → Chip → Chip
+opened layout p s = openRun layout p s .after
 
-abbrev pub stepsAfter : ℕ → ℕ → Places → Chip → Run (List Answer)
-stepsAfter n copies p s = stepsUpTo n copies p (opened copies p s)
+abbrev pub stepsAfter : ℕ → Layout → Places → Chip → Run (List Answer)
+stepsAfter n layout p s = stepsUpTo n layout p (opened layout p s)
 
 -- ## Ample lives
 
 -- an image with every cell at FF and at least n + 1 good writes in each, lent on good place settings
-pub record Fresh (n copies : ℕ) (p : Places) (s : Chip) : Type 0 where
+pub record Fresh (n : ℕ) (layout : Layout) (p : Places) (s : Chip) : Type 0 where
   pub lives : livesGood s ≡ true
-  pub long : lengthGood copies (length (s .cells)) ≡ true
-  pub places : placesGood copies (length (s .cells)) p ≡ true
+  pub long : lengthGood layout (length (s .cells)) ≡ true
+  pub places : placesGood layout (length (s .cells)) p ≡ true
   pub blank : (a : ℕ) → a < length (s .cells) → cellAt s a ≡ 0xFF
   pub lasting : (a : ℕ) → a < length (s .cells) → n + 1 ≤ lifeAt s a
 
 -- n good answers from count c on: each counts one more, with lag 0, one write a copy and no spare tried
-unfoldable pub counting : ℕ → ℕ → ℕ → List Answer
-counting zero copies c = []
-counting (suc n) copies c = answer 0 (c + 1) (pos 0) 0 copies 0 ∷ counting n copies (c + 1)
+unfoldable pub counting : ℕ → Layout → ℕ → List Answer
+counting zero layout c = []
+counting (suc n) layout c = answer 0 (c + 1) (pos 0) 0 (layout .copies) 0 ∷ counting n layout (c + 1)
 
 -- the cell of nibble k in a copy, counted from 0, as the opening leaves it
-abbrev pub cellOf : ℕ → Places → Chip → ℕ → ℕ → ℕ
-cellOf copies p s copy k = pointerOf (mapIn copies p (opened copies p s .cells)) (8 * copy + k)
+abbrev pub cellOf : Layout → Places → Chip → ℕ → ℕ → ℕ
+cellOf layout p s copy k = pointerOf (mapIn layout p (opened layout p s .cells)) (8 * copy + k)
 
 -- how often it is written in the first n steps
 unfoldable pub writesOf : ℕ → ℕ → ℕ
 writesOf n k = n / 16 ^ k - n / 16 ^ (k + 1)
 
 -- that cell has been written once by the opening, and then so often, and its life has fallen by both
-pub record Worn (n copies : ℕ) (p : Places) (s : Chip) (copy k : ℕ) : Type 0 where
-  pub first : askedOf (cellOf copies p s copy k) (openRun copies p s .log) ≡ 1
-  pub written : askedOf (cellOf copies p s copy k) (stepsAfter n copies p s .log) ≡ writesOf n k
+pub record Worn (n : ℕ) (layout : Layout) (p : Places) (s : Chip) (copy k : ℕ) : Type 0 where
+  pub first : askedOf (cellOf layout p s copy k) (openRun layout p s .log) ≡ 1
+  pub written : askedOf (cellOf layout p s copy k) (stepsAfter n layout p s .log) ≡ writesOf n k
   pub life :
-      lifeAt (stepsAfter n copies p s .after) (cellOf copies p s copy k) + writesOf n k + 1
-      ≡ lifeAt s (cellOf copies p s copy k)
+      lifeAt (stepsAfter n layout p s .after) (cellOf layout p s copy k) + writesOf n k + 1
+      ≡ lifeAt s (cellOf layout p s copy k)
 
 -- the opening and every one of n steps answers, no spare is used, each pointer stays, and each nibble's cell is so worn
-pub record Lasts (n copies : ℕ) (p : Places) (s : Chip) : Type 0 where
-  pub opens : openOf copies p s .says ≡ answer 0 0 (pos 0) 0 (length (openRun copies p s .log)) 0
-  pub answers : stepsAfter n copies p s .answer ≡ counting n copies 0
-  pub map : mapIn copies p (stepsAfter n copies p s .after .cells) ≡ mapIn copies p (opened copies p s .cells)
-  pub worn : (copy k : ℕ) → copy < copies → k < 8 → Worn n copies p s copy k
+pub record Lasts (n : ℕ) (layout : Layout) (p : Places) (s : Chip) : Type 0 where
+  pub opens : openOf layout p s .says ≡ answer 0 0 (pos 0) 0 (length (openRun layout p s .log)) 0
+  pub answers : stepsAfter n layout p s .answer ≡ counting n layout 0
+  pub map : mapIn layout p (stepsAfter n layout p s .after .cells) ≡ mapIn layout p (opened layout p s .cells)
+  pub worn : (copy k : ℕ) → copy < layout .copies → k < 8 → Worn n layout p s copy k
 
 -- ## Any lives
 
@@ -90,5 +90,5 @@ abbrev pub areaCells : Places → ℕ
 areaCells p = p .end + 1 - p .start
 
 -- what the data writes of n steps cannot exceed: one a copy and step, and the area's cells less one a slot
-unfoldable pub dataBound : ℕ → ℕ → Places → ℕ
-dataBound copies n p = copies * n + areaCells p - slots copies
+unfoldable pub dataBound : Layout → ℕ → Places → ℕ
+dataBound layout n p = layout .copies * n + areaCells p - slots layout

@@ -1,7 +1,7 @@
 -- What the test `n < 0` says of a signed number.
 use Prim.Native.Nat.{ℕ, _<_, _^_}
 use mathlib.Core.Path.{_≡_, refl}
-use mathlib.Core.Bool.{true, false}
+use mathlib.Core.Bool.{true, false, true≢false}
 use native.Mathlib.Omega.{arith}
 use lib.IntN.{ℤ, pos, negsuc}
 use lib.Signed.{ltZ}
@@ -19,6 +19,4 @@ negative (negsuc k) fits test = (k, refl, fits .sfits)
 pub positive : (n : ℤ) → SFits w64 n → ltZ (toZ w64 (ofZ w64 n)) (pos 0) ≡ false → (k : ℕ) × (n ≡ pos k) × (k < 2 ^ 63)
 positive (pos k) fits test = (k, refl, fits .sfits)
 positive (negsuc k) fits test =
-    let false-test : true ≡ false = rw (toZ-ofZ fits) at test in
-    let never : _≡_ {A = ℕ} 0 1 = cc in
-    absurd (omega arith)
+    absurd (true≢false (rw (toZ-ofZ fits) at test))

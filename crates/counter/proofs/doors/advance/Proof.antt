@@ -8,13 +8,13 @@ use Rattle.cells.specs.Run.{Run}
 use Rattle.counter.specs.declared.verdict.Answer.{Answer}
 use Rattle.counter.specs.declared.verdict.Verdict.the-variants.{Good}
 use Rattle.counter.specs.declared.verdict.Work.{Work}
-use Rattle.counter.specs.Slots.{two}
 use Rattle.counter.specs.Verdict.{outcome, outcomeOf, _endingIn_, _andThen_}
 use Rattle.counter.specs.Store.{store}
 use Rattle.counter.specs.Doors.{stepping}
 use Rattle.counter.proofs.NextStores.{held-next}
 use Rattle.counter.proofs.DoorViews.{outcome-ending}
 use borrow.Author.Needs.{needs}
+use Rattle.counter.specs.Layout.{two}
 use Rattle.counter.proofs.doors.advance.Statement.{statement}
 use Rattle.counter.proofs.doors.advance.Tie as tie
 

@@ -5,10 +5,10 @@ use Rattle.cells.specs.Chip.{chip}
 use Rattle.counter.specs.declared.verdict.Answer.{Answer}
 use Rattle.counter.specs.declared.verdict.Verdict.the-variants.{Good}
 use Rattle.counter.specs.Verdict.{outcome}
-use Rattle.counter.specs.Slots.{two}
 use Rattle.counter.specs.Opening.{firstOpening}
 use Rattle.counter.proofs.DoorViews.{outcome-ending}
 use borrow.Author.Needs.{needs}
+use Rattle.counter.specs.Layout.{two}
 use Rattle.counter.proofs.doors.begin.Statement.{statement}
 use Rattle.counter.proofs.doors.begin.Tie as tie
 

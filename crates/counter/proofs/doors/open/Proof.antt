@@ -2,11 +2,11 @@
 use mathlib.Core.Path.{sym, ap, _∙_}
 use Rattle.cells.specs.Chip.{chip}
 use Rattle.counter.specs.declared.verdict.Answer.{Answer}
-use Rattle.counter.specs.Slots.{two}
 use Rattle.counter.specs.Verdict.{outcome, outcomeOf}
 use Rattle.counter.specs.Doors.{openOf}
 use Rattle.counter.proofs.DoorViews.{outcome-refused, chip-fitted, open-unpaired, open-unfit, open-unmarked, open-marked}
 use borrow.Author.Needs.{needs}
+use Rattle.counter.specs.Layout.{two}
 use Rattle.counter.proofs.doors.open.Statement.{statement}
 use Rattle.counter.proofs.doors.open.Tie as tie
 

@@ -1,9 +1,9 @@
 -- `doors::part_found` meets its contract.
 use mathlib.Core.Path.{sym, _∙_}
-use Rattle.counter.specs.Slots.{two}
 use Rattle.counter.proofs.Standings.{guard-unfit, guard-unmarked}
 use Rattle.counter.specs.Doors.{partVerdict}
 use borrow.Author.Needs.{needs}
+use Rattle.counter.specs.Layout.{two}
 use Rattle.counter.proofs.doors.part_found.Statement.{statement}
 use Rattle.counter.proofs.doors.part_found.Tie as tie
 

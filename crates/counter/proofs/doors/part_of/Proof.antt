@@ -4,10 +4,10 @@ use native.Mathlib.Omega.{arith}
 use Rattle.counter.specs.declared.verdict.Answer.{Answer}
 use Rattle.counter.specs.declared.verdict.Verdict.the-variants.{Good}
 use Rattle.counter.specs.Places.{places}
-use Rattle.counter.specs.Slots.{two}
 use Rattle.counter.specs.Doors.{part, partVerdict}
 use Rattle.counter.proofs.Parts.{Parted, parted, part-good, part-refused}
 use borrow.Author.Needs.{needs}
+use Rattle.counter.specs.Layout.{two}
 use Rattle.counter.proofs.doors.part_of.Statement.{statement}
 use Rattle.counter.proofs.doors.part_of.Tie as tie
 

@@ -6,13 +6,13 @@ use mir.Facts.{toZ-ofZ}
 use Rattle.cells.specs.Chip.{chip}
 use Rattle.counter.specs.declared.verdict.Answer.{Answer}
 use Rattle.counter.specs.declared.verdict.Verdict.the-variants.{Good}
-use Rattle.counter.specs.Slots.{two}
 use Rattle.counter.specs.Verdict.{outcome, outcomeOf, _endingIn_}
 use Rattle.counter.specs.Store.{store}
 use Rattle.counter.specs.Doors.{chipVerdict}
 use Rattle.counter.proofs.DoorViews.{outcome-ending, outcome-refused, chip-examined, good-settled, reopening-good, reopening-refused}
 use Rattle.counter.proofs.Standings.{stands-marked}
 use borrow.Author.Needs.{needs}
+use Rattle.counter.specs.Layout.{two}
 use Rattle.counter.proofs.doors.reopen.Statement.{statement}
 use Rattle.counter.proofs.doors.reopen.Tie as tie
 

@@ -8,13 +8,13 @@ use mir.Facts.{toZ-ofZ}
 use Rattle.cells.specs.Chip.{chip}
 use Rattle.counter.specs.declared.verdict.Answer.{Answer}
 use Rattle.counter.specs.declared.verdict.Verdict.the-variants.{Good}
-use Rattle.counter.specs.Slots.{two}
 use Rattle.counter.specs.Places.{places}
 use Rattle.counter.specs.Verdict.{outcome, outcomeOf}
 use Rattle.counter.specs.Doors.{chipVerdict, stepping, stepOf}
 use Rattle.counter.proofs.GoodVerdicts.{verdict-good}
 use Rattle.counter.proofs.DoorViews.{outcome-refused, chip-verdict, good-settled, step-unpaired, step-refused, step-last, step-on}
 use borrow.Author.Needs.{needs}
+use Rattle.counter.specs.Layout.{two}
 use Rattle.counter.proofs.doors.step.Statement.{statement}
 use Rattle.counter.proofs.doors.step.Tie as tie
 

@@ -4,6 +4,7 @@ use mathlib.Core.Path.{_≡_, sym}
 use borrow.Author.Needs.{needs}
 use native.Mathlib.Omega.{arith}
 use Rattle.counter.specs.Map.{byteAt, offsetOf}
+use Rattle.counter.specs.Layout.{two}
 use Rattle.counter.proofs.Offsets.{low-inside, high-inside, pointer-low, pointer-high}
 use Rattle.counter.proofs.map.pointer_of.Statement.{statement}
 use Rattle.counter.proofs.map.pointer_of.Tie as tie
@@ -14,7 +15,7 @@ offset-of-requires c κs = search needs
 shared-slice-read-wide : tie.Need-shared-slice-read-wide
 shared-slice-read-wide c =
     let s = c .before .before .before .before in
-    omega (arith, low-inside 2 (s .args .slot) (s .pre .1) (c .before .before .if1 .taken))
+    omega (arith, low-inside two (s .args .slot) (s .pre .1) (c .before .before .if1 .taken))
 
 wide-requires : tie.Need-wide-requires
 wide-requires c κs = search needs
@@ -22,12 +23,12 @@ wide-requires c κs = search needs
 add-wide : tie.Need-add-wide
 add-wide c =
     let s = c .before .before .before .before .before in
-    omega (arith, low-inside 2 (s .args .slot) (s .pre .1) (c .before .before .before .if1 .taken))
+    omega (arith, low-inside two (s .args .slot) (s .pre .1) (c .before .before .before .if1 .taken))
 
 shared-slice-read-wide-2 : tie.Need-shared-slice-read-wide-2
 shared-slice-read-wide-2 c =
     let s = c .before .before .before .before .before .before in
-    omega (arith, low-inside 2 (s .args .slot) (s .pre .1) (c .before .before .before .before .if1 .taken))
+    omega (arith, low-inside two (s .args .slot) (s .pre .1) (c .before .before .before .before .if1 .taken))
 
 wide-requires-2 : tie.Need-wide-requires-2
 wide-requires-2 c κs = search needs
@@ -54,7 +55,7 @@ offset-of-requires-2 c κs = search needs
 shared-slice-read-wide-3 : tie.Need-shared-slice-read-wide-3
 shared-slice-read-wide-3 c =
     let s = c .before .before .before .before in
-    omega (arith, high-inside 2 (s .args .slot) (s .pre .1) (c .before .before .if1 .left))
+    omega (arith, high-inside two (s .args .slot) (s .pre .1) (c .before .before .if1 .left))
 
 wide-requires-3 : tie.Need-wide-requires-3
 wide-requires-3 c κs = search needs

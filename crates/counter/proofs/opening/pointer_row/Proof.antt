@@ -10,6 +10,7 @@ use lib.ListN.{length, length-set}
 use Rattle.counter.specs.Slots.{kindOf}
 use Rattle.counter.specs.Map.{offsetIn, offsetOf}
 use Rattle.counter.specs.Inside.{pointerRow}
+use Rattle.counter.specs.Layout.{two}
 use Rattle.counter.proofs.Offsets.{kind-high, bytes-some, offset-first, offset-inside, low-inside, high-inside}
 use Rattle.counter.proofs.SoundPointers.{test-reach}
 use Rattle.counter.proofs.PointerRows.{laid, laid-none, laid-all, laid-low, laid-high}
@@ -48,7 +49,7 @@ cast-bytes c = search needs
 array-write-bytes : tie.Need-array-write-bytes Inv-loop μ-loop
 array-write-bytes c =
     let at = c .before .offset-of .ensures in
-    let inside = offset-inside 2 (c .before .before .before .loop .slot) (c .before .before .loop-test .taken) in
+    let inside = offset-inside two (c .before .before .before .loop .slot) (c .before .before .loop-test .taken) in
     let some = bytes-some (kindOf (c .before .before .before .loop .slot)) in
     omega arith
 
@@ -60,13 +61,13 @@ cast-bytes-2 c =
 add-bytes : tie.Need-add-bytes Inv-loop μ-loop
 add-bytes c =
     let at = c .before .before .offset-of .ensures in
-    let inside = low-inside 2 (c .before .before .before .before .loop .slot) (c .before .before .before .loop-test .taken) (c .if1 .taken) in
+    let inside = low-inside two (c .before .before .before .before .loop .slot) (c .before .before .before .loop-test .taken) (c .if1 .taken) in
     omega arith
 
 array-write-bytes-2 : tie.Need-array-write-bytes-2 Inv-loop μ-loop
 array-write-bytes-2 c =
     let at = c .before .before .offset-of .ensures in
-    let inside = low-inside 2 (c .before .before .before .before .loop .slot) (c .before .before .before .loop-test .taken) (c .if1 .taken) in
+    let inside = low-inside two (c .before .before .before .before .loop .slot) (c .before .before .before .loop-test .taken) (c .if1 .taken) in
     omega arith
 
 add-slot : tie.Need-add-slot Inv-loop μ-loop
@@ -90,10 +91,10 @@ laid-turn c =
     let inside : loop .slot < length (now (start .args .addresses)) = omega arith in
     ⊎-elim
     (λ x.
-    let end = low-inside 2 (loop .slot) test (x .0 .taken) in
+    let end = low-inside two (loop .slot) test (x .0 .taken) in
     rw (x .1) (simp length-set size, laid-low _ (loop .bytes) (loop .slot) _ inside (rw at) (x .0 .taken) (omega arith)))
     (λ x.
-    let end = high-inside 2 (loop .slot) test (x .0 .left) in
+    let end = high-inside two (loop .slot) test (x .0 .left) in
     let reach = test-reach (kindOf (loop .slot)) _ (start .pre .1 (loop .slot) test .1) (kind-high (loop .slot) (x .0 .left)) in
     rw (x .1) (simp length-set size, laid-high _ (loop .bytes) (loop .slot) _ inside (rw at) (x .0 .left) (omega arith) reach))
     (c .if1 .came)

@@ -3,7 +3,7 @@ use mathlib.Core.Path.{sym}
 use mathlib.Core.Logic.{⊎-elim, inl, inr}
 use borrow.Author.Needs.{needs}
 use native.Mathlib.Omega.{arith}
-use Rattle.counter.specs.Slots.{two}
+use Rattle.counter.specs.Layout.{two}
 use Rattle.counter.proofs.Settings.{placed-good, not-placed}
 use Rattle.counter.proofs.places.places_good.Statement.{statement}
 use Rattle.counter.proofs.places.places_good.Tie as tie

@@ -10,7 +10,7 @@ use Rattle.code.specs.Gray.{countOf}
 use Rattle.code.specs.Nibbles.{wordOf}
 use Rattle.code.proofs.Filled.{all-set}
 use Rattle.code.proofs.TabulateLaws.{filled}
-use Rattle.counter.specs.Slots.{two}
+use Rattle.counter.specs.Layout.{two}
 use Rattle.counter.specs.Reading.{nibbleIn, countIn}
 use Rattle.counter.specs.Inside.{listed}
 use Rattle.counter.proofs.Weighed.{nibble-two}

@@ -3,7 +3,6 @@ use Prim.Native.Nat.{ℕ, _^_, _<_}
 use mathlib.Core.Path.{_≡_, sym, ap, _∙_}
 use native.Mathlib.Omega.{arith}
 use Rattle.code.proofs.GrayLaws.{count-small}
-use Rattle.counter.specs.Slots.{two}
 use Rattle.counter.specs.Reading.{dataAt}
 use Rattle.counter.specs.Store.{slotCode}
 use Rattle.counter.proofs.ReadBack.{weigh-exact}
@@ -11,6 +10,7 @@ use Rattle.counter.proofs.Weighed.{weigh-same}
 use Rattle.counter.proofs.PlainBytes.{plain-held}
 use Rattle.counter.proofs.RangeTests.{no-claim}
 use borrow.Author.Needs.{needs}
+use Rattle.counter.specs.Layout.{two}
 use Rattle.counter.proofs.reading.found_in.Statement.{statement}
 use Rattle.counter.proofs.reading.found_in.Tie as tie
 

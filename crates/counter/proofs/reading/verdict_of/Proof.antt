@@ -1,10 +1,10 @@
 -- `reading::verdict_of` meets its contract.
 use mathlib.Core.Path.{sym, _∙_}
-use Rattle.counter.specs.Slots.{two}
 use Rattle.counter.proofs.Standings.{stands-marked, guard-unfit, guard-unmarked, guard-marked}
 use Rattle.counter.specs.Reading.{verdictOf}
 use Rattle.counter.proofs.RangeTests.{no-claim}
 use borrow.Author.Needs.{needs}
+use Rattle.counter.specs.Layout.{two}
 use Rattle.counter.proofs.reading.verdict_of.Statement.{statement}
 use Rattle.counter.proofs.reading.verdict_of.Tie as tie
 

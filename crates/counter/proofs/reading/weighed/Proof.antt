@@ -4,11 +4,12 @@ use mathlib.Core.Path.{_≡_, sym, _∙_}
 use Rattle.code.specs.Entries.{readingAt}
 use Rattle.counter.specs.declared.reading.Fault.the-variants.{Twofold, LostInAll}
 use Rattle.counter.specs.declared.verdict.Refusal.the-variants.{TwoCodes, LostNibble}
-use Rattle.counter.specs.Slots.{two, lowest}
+use Rattle.counter.specs.Slots.{lowest}
 use Rattle.counter.specs.Reading.{weigh, onFound, countIn, decide}
 use Rattle.counter.specs.Inside.{listed, amiss}
 use Rattle.counter.proofs.Weighed.{weigh-entries}
 use borrow.Author.Needs.{needs}
+use Rattle.counter.specs.Layout.{two}
 use Rattle.counter.proofs.reading.weighed.Statement.{statement}
 use Rattle.counter.proofs.reading.weighed.Tie as tie
 

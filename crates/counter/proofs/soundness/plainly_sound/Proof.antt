@@ -1,12 +1,13 @@
 -- `soundness::plainly_sound` meets its contract.
 use Prim.Native.Nat.{ℕ}
 use mathlib.Core.Path.{_≡_, sym, _∙_}
-use mathlib.Core.Bool.{true}
+use mathlib.Core.Bool.{true, true≢false}
 use mathlib.Core.Logic.{⊎-elim}
 use borrow.Author.Needs.{needs}
 use borrow.Author.Tests.{not-true, not-false}
 use native.Mathlib.Omega.{arith}
-use Rattle.counter.specs.Slots.{two, every}
+use Rattle.counter.specs.Layout.{two}
+use Rattle.counter.specs.Slots.{every}
 use Rattle.counter.specs.Map.{pointerOf}
 use Rattle.counter.proofs.RangeTests.{never}
 use Rattle.counter.proofs.SoundByTries.{follows, sound-tries, sound-differ, spread-sound}
@@ -21,7 +22,7 @@ returns c =
     sym
     (never _
     (λ s.
-    let z : _≡_ {A = ℕ} 0 1 = cc (sound-tries two _ _ s, c .before .in-order .ensures, not-true (c .before .in-order .result) (c .if2 .taken)) in
+    let z = true≢false (cc (sound-tries two _ _ s, c .before .in-order .ensures, not-true (c .before .in-order .result) (c .if2 .taken))) in
     omega arith))
 
 spread-requires : tie.Need-spread-requires

@@ -4,13 +4,13 @@ use mathlib.Core.Bool.{true}
 use borrow.Author.Tests.{not-true, not-false}
 use native.Mathlib.Omega.{arith}
 use lib.ListN.{length}
-use Rattle.counter.specs.Slots.{two}
 use Rattle.counter.specs.Places.{lengthGood, placesGood}
 use Rattle.counter.specs.Map.{mapIn, marked}
 use Rattle.counter.specs.Inside.{standingOf}
 use Rattle.counter.proofs.Settings.{good-placed}
 use Rattle.counter.proofs.MapBytes.{map-whole}
 use borrow.Author.Needs.{needs}
+use Rattle.counter.specs.Layout.{two}
 use Rattle.counter.proofs.standing.standing_of.Statement.{statement}
 use Rattle.counter.proofs.standing.standing_of.Tie as tie
 

@@ -4,10 +4,10 @@ use mathlib.Core.Path.{_≡_, ap, _∙_}
 use mathlib.Core.List.{List}
 use native.Mathlib.Omega.{arith}
 use lib.ListN.{take, drop, length, length-take, length-drop}
-use Rattle.counter.specs.Slots.{two}
 use Rattle.counter.specs.Map.{mapIn, pointerOf}
 use Rattle.counter.proofs.Settings.{good-placed}
 use borrow.Author.Needs.{needs}
+use Rattle.counter.specs.Layout.{two}
 use Rattle.counter.proofs.store.cells_of.Statement.{statement}
 use Rattle.counter.proofs.store.cells_of.Tie as tie
 

@@ -6,6 +6,7 @@ use denote.Ref.{now}
 use lib.ListN.{length}
 use Rattle.cells.specs.Chip.{chip}
 use Rattle.counter.specs.Map.{mapIn}
+use Rattle.counter.specs.Layout.{two}
 use Rattle.counter.proofs.MapBytes.{map-whole}
 use Rattle.counter.proofs.SoundPointers.{test-sound}
 use Rattle.counter.proofs.Ready.{ready-placed}
@@ -23,7 +24,7 @@ cells-requires : tie.Need-cells-requires
 cells-requires c κs = let good = ready-placed (fitted-ready (c .before .before .before .before .pre .0)) in omega arith
 
 -- the cells are the map
-map : (c : tie.After-cells) → let s = c .before .before .before .before .before .args in c .cells .result .now ≡ mapIn 2 (s .p) (s .image .now)
+map : (c : tie.After-cells) → let s = c .before .before .before .before .before .args in c .cells .result .now ≡ mapIn two (s .p) (s .image .now)
 map c = rw (← c .before .before .at .ensures) (c .cells .ensures)
 
 gap-of-requires : tie.Need-gap-of-requires
@@ -33,11 +34,11 @@ gap-of-requires c κs =
     (rw (map c) (map-whole _ good), omega (arith, ready-short ready))
 
 -- the gap is that of the map
-gap-here : (c : tie.After-gap-of) → let s = c .before .before .before .before .before .before .args in c .gap-of .result ≡ gapAt 2 (s .p) (chip (now (s .image)) (now (s .lives)))
+gap-here : (c : tie.After-gap-of) → let s = c .before .before .before .before .before .before .args in c .gap-of .result ≡ gapAt two (s .p) (chip (now (s .image)) (now (s .lives)))
 gap-here c = rw (← map (c .before)) (c .gap-of .ensures)
 
 gap-fits-here : (c : tie.After-gap-of) → GapFits (length (now (c .before .before .before .before .before .before .args .image))) (c .gap-of .result)
-gap-fits-here c = rw (gap-here c) (gap-fits (fitted-ready (c .before .before .before .before .before .before .pre .0)) (test-sound 2 _ _ (c .before .before .before .before .before .before .pre .1)))
+gap-fits-here c = rw (gap-here c) (gap-fits (fitted-ready (c .before .before .before .before .before .before .pre .0)) (test-sound two _ _ (c .before .before .before .before .before .before .pre .1)))
 
 try-spares-requires : tie.Need-try-spares-requires
 try-spares-requires c κs =
@@ -53,7 +54,7 @@ enum-known-found c = search needs
 put-pointer-requires : tie.Need-put-pointer-requires
 put-pointer-requires c κs =
     let s = c .before .before .before .before .before .before .before .before .before .before .before .before .before .before .before .before .before .before in
-    let held = spare-held 2 (s .args .p) (s .args .slot) (s .args .byte) _ (gap-here (c .before .before .before .before .before .before .before .before .before .before .before .before)) (c .before .before .before .before .before .before .before .before .before .try-spares .ensures) (fitted-ready (s .pre .0)) (c .before .before .before .found .given .1) in
+    let held = spare-held two (s .args .p) (s .args .slot) (s .args .byte) _ (gap-here (c .before .before .before .before .before .before .before .before .before .before .before .before)) (c .before .before .before .before .before .before .before .before .before .try-spares .ensures) (fitted-ready (s .pre .0)) (c .before .before .before .found .given .1) in
     (ready-fitted (held .ready), s .pre .2, held .small, held .reach)
 
 behind-requires : tie.Need-behind-requires
@@ -74,7 +75,7 @@ same-length-2 : tie.Need-same-length-2
 same-length-2 c = search needs
 
 returns : tie.Need-returns
-returns c = sym (move-nowhere 2 _ _ _ _ (gap-here (c .before .before .before .before .before .before .before .before .before)) (c .before .before .before .before .before .before .try-spares .ensures) (c .enum-told .given .1))
+returns c = sym (move-nowhere two _ _ _ _ (gap-here (c .before .before .before .before .before .before .before .before .before)) (c .before .before .before .before .before .before .try-spares .ensures) (c .enum-told .given .1))
 
 same-length-3 : tie.Need-same-length-3
 same-length-3 c = search needs
@@ -87,7 +88,7 @@ returns-2 c =
     let pointer = c .before .before .before .before .before in
     let spares = pointer .before .before .before .before .before .before .before .before .before .before in
     c .behind .ensures _
-    ∙ sym (move-at 2 _ _ _ _ (gap-here (spares .before .before .before)) (spares .try-spares .ensures) (pointer .before .before .before .before .found .given .1) (pointer .put-pointer .ensures))
+    ∙ sym (move-at two _ _ _ _ (gap-here (spares .before .before .before)) (spares .try-spares .ensures) (pointer .before .before .before .before .found .given .1) (pointer .put-pointer .ensures))
 
 pub move-slot-spec : {M : Type 1} → statement M
 move-slot-spec =

@@ -3,6 +3,7 @@ use mathlib.Core.Path.{sym}
 use borrow.Author.Needs.{needs}
 use native.Mathlib.Omega.{arith}
 use Rattle.counter.specs.Slots.{kindOf}
+use Rattle.counter.specs.Layout.{two}
 use Rattle.counter.proofs.Offsets.{kind-high, offset-inside, low-inside, high-inside}
 use Rattle.counter.proofs.SoundPointers.{test-reach}
 use Rattle.counter.proofs.Ready.{ready-placed}
@@ -19,7 +20,7 @@ add-at c =
     let s = c .before .before .before .before in
     let ready = fitted-ready (s .pre .0) in
     let good = ready-placed ready in
-    let inside = offset-inside 2 (s .args .slot) (s .pre .1) in
+    let inside = offset-inside two (s .args .slot) (s .pre .1) in
     omega (arith, ready-short ready, c .before .offset-of .ensures)
 
 cast-low : tie.Need-cast-low
@@ -36,7 +37,7 @@ put-row-requires c κs =
     let s = c .before .before .before .before .before .before .before .before in
     let ready = fitted-ready (s .pre .0) in
     let good = ready-placed ready in
-    let inside = low-inside 2 (s .args .slot) (s .pre .1) (c .before .before .before .if1 .taken) in
+    let inside = low-inside two (s .args .slot) (s .pre .1) (c .before .before .before .if1 .taken) in
     let at = c .before .before .before .before .before .offset-of .ensures in
     (omega arith, ready .paired)
 
@@ -63,7 +64,7 @@ put-row-requires-2 c κs =
     let s = c .before .before .before .before .before .before .before .before in
     let ready = fitted-ready (s .pre .0) in
     let good = ready-placed ready in
-    let inside = high-inside 2 (s .args .slot) (s .pre .1) (c .before .before .before .if1 .left) in
+    let inside = high-inside two (s .args .slot) (s .pre .1) (c .before .before .before .if1 .left) in
     let at = c .before .before .before .before .before .offset-of .ensures in
     (omega arith, ready .paired)
 

@@ -2,9 +2,9 @@
 use mathlib.Core.Path.{sym, ap}
 use Rattle.cells.specs.Run.{Run, view}
 use Rattle.counter.specs.declared.verdict.Work.{Work}
-use Rattle.counter.specs.Slots.{two}
 use Rattle.counter.proofs.NextStores.{store-held}
 use borrow.Author.Needs.{needs}
+use Rattle.counter.specs.Layout.{two}
 use Rattle.counter.proofs.store.settle.Statement.{statement}
 use Rattle.counter.proofs.store.settle.Tie as tie
 

@@ -6,12 +6,12 @@ use lib.ListN.{length}
 use Rattle.cells.specs.Chip.{chip, lifeAt, writeAt}
 use Rattle.cells.specs.Run.{seen}
 use Rattle.counter.specs.declared.verdict.Work.the-variants.{Done}
-use Rattle.counter.specs.Slots.{two}
 use Rattle.counter.proofs.SoundPointers.{test-sound}
 use Rattle.counter.proofs.Ready.{pointers, inside-cell}
 use Rattle.counter.proofs.Fitted.{fitted-ready, ready-short}
 use Rattle.counter.proofs.Written.{both-written}
 use borrow.Author.Needs.{needs}
+use Rattle.counter.specs.Layout.{two}
 use Rattle.counter.proofs.store.store_both.Statement.{statement}
 use Rattle.counter.proofs.store.store_both.Tie as tie
 

@@ -18,6 +18,7 @@ use Rattle.counter.specs.Places.{fitted}
 use Rattle.counter.specs.Map.{sound}
 use Rattle.counter.specs.Store.{slotCode, store}
 use Rattle.counter.specs.Inside.{stopped}
+use Rattle.counter.specs.Layout.{two}
 use Rattle.counter.proofs.Ready.{pointers}
 use Rattle.counter.proofs.Fitted.{fitted-ready}
 use Rattle.counter.proofs.Behind.{stopped-not}
@@ -35,9 +36,9 @@ Inv-loop image₀ lives₀ p count word done₀ slot₀ image lives done slot =
       tries : done .tried ≤ 4096 * slot;
       cells-kept : length image ≡ length image₀;
       lives-kept : length lives ≡ length lives₀;
-      good : fitted 2 p (chip image lives) ≡ true;
-      well : sound 2 p (pointers 2 p (chip image lives)) ≡ true;
-      rest : view (store 2 p count (chip image₀ lives₀)) ≡ plus (done .writes) (done .tried) (view (storeLeft 2 p count slot (chip image lives)));
+      good : fitted two p (chip image lives) ≡ true;
+      well : sound two p (pointers two p (chip image lives)) ≡ true;
+      rest : view (store two p count (chip image₀ lives₀)) ≡ plus (done .writes) (done .tried) (view (storeLeft two p count slot (chip image lives)));
     }
 
 abbrev μ-loop : tie.MeasureT-loop
@@ -117,7 +118,7 @@ loop-again c =
     let said = sum behind in
     let going = sym (said .0) in
     let done : stopped (call .store-slot .result .work) ≡ false = ap stopped going ∙ sym (c .before .is-stopped .ensures) ∙ c .if1 .left in
-    let settled = slot-settled 2 _ _ (loop .inv .good) (loop .inv .well) _ _ inside (call .store-slot .ensures) done in
+    let settled = slot-settled two _ _ (loop .inv .good) (loop .inv .well) _ _ inside (call .store-slot .ensures) done in
     record {
       most = omega arith;
       work = said .0 ∙ stopped-not _ done;
@@ -130,7 +131,7 @@ loop-again c =
       rest =
           rw (said .1, said .2)
           (loop .inv .rest
-          ∙ ap (plus (loop .done .writes) (loop .done .tried)) (store-left-done 2 _ _ _ _ inside (code-here (call .before)) (call .store-slot .ensures) done)
+          ∙ ap (plus (loop .done .writes) (loop .done .tried)) (store-left-done two _ _ _ _ inside (code-here (call .before)) (call .store-slot .ensures) done)
           ∙ plus-plus (loop .done .writes) (loop .done .tried) (call .store-slot .result .writes) (call .store-slot .result .tried) _);
     }
 
@@ -143,7 +144,7 @@ same-length-2 c = search needs
 returns : tie.Need-returns Inv-loop μ-loop
 returns c =
     let loop = c .before .loop in
-    rw (loop .inv .work) (sym (loop .inv .rest ∙ store-left-none 2 _ _ _ _ (loop .slot) _ (omega arith)))
+    rw (loop .inv .work) (sym (loop .inv .rest ∙ store-left-none two _ _ _ _ (loop .slot) _ (omega arith)))
 
 same-length-3 : tie.Need-same-length-3 Inv-loop μ-loop
 same-length-3 c = search needs
@@ -158,7 +159,7 @@ returns-2 c =
     let loop = call .before .before .before .before .before .before .loop in
     let halt : stopped (call .store-slot .result .work) ≡ true = ap stopped (sym (sum behind .0)) ∙ sym (c .before .is-stopped .ensures) ∙ c .if1 .taken in
     behind .behind .ensures _
-    ∙ ap (plus (loop .done .writes) (loop .done .tried)) (sym (store-left-stopped 2 _ _ _ _ (let inside = call .before .before .before .before .before .loop-test .taken in omega arith) (code-here (call .before)) (call .store-slot .ensures) halt))
+    ∙ ap (plus (loop .done .writes) (loop .done .tried)) (sym (store-left-stopped two _ _ _ _ (let inside = call .before .before .before .before .before .loop-test .taken in omega arith) (code-here (call .before)) (call .store-slot .ensures) halt))
     ∙ sym (loop .inv .rest)
 
 pub store-count-spec : {M : Type 1} → statement M

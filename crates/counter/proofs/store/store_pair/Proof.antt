@@ -4,7 +4,7 @@ use mathlib.Core.Bool.{true, false}
 use borrow.Author.Needs.{needs}
 use native.Mathlib.Omega.{arith}
 use Rattle.cells.specs.Chip.{chip}
-use Rattle.counter.specs.Slots.{two}
+use Rattle.counter.specs.Layout.{two}
 use Rattle.counter.specs.Places.{fitted}
 use Rattle.counter.specs.Map.{mapIn, pointerOf, sound}
 use Rattle.counter.specs.Store.{storeSlot}

@@ -9,6 +9,7 @@ use Rattle.cells.specs.Chip.{Chip, chip}
 use Rattle.cells.proofs.Puts.{put-few}
 use Rattle.counter.specs.Places.{fitted}
 use Rattle.counter.specs.Map.{pointerOf, sound}
+use Rattle.counter.specs.Layout.{two}
 use Rattle.counter.proofs.MapBytes.{map-part}
 use Rattle.counter.proofs.SoundPointers.{test-sound}
 use Rattle.counter.proofs.Ready.{pointers, ready-placed, inside-cell}
@@ -37,14 +38,14 @@ pointer-of-requires : tie.Need-pointer-of-requires
 pointer-of-requires c κs = search needs
 
 -- the address is the slot's pointer
-pointer-here : (c : tie.After-pointer-of) → c .pointer-of .result ≡ pointers 2 (c .before .before .before .before .before .args .p) (chip (now (c .before .before .before .before .before .args .image)) (now (c .before .before .before .before .before .args .lives))) (c .before .before .before .before .before .args .slot)
-pointer-here c = c .pointer-of .ensures .0 ∙ ap (λ (map : List ℕ). pointerOf map (c .before .before .before .before .before .args .slot)) (map-part 2 (c .before .before .before .before .before .args .p) (now (c .before .before .before .before .before .args .image)))
+pointer-here : (c : tie.After-pointer-of) → c .pointer-of .result ≡ pointers two (c .before .before .before .before .before .args .p) (chip (now (c .before .before .before .before .before .args .image)) (now (c .before .before .before .before .before .args .lives))) (c .before .before .before .before .before .args .slot)
+pointer-here c = c .pointer-of .ensures .0 ∙ ap (λ (map : List ℕ). pointerOf map (c .before .before .before .before .before .args .slot)) (map-part two (c .before .before .before .before .before .args .p) (now (c .before .before .before .before .before .args .image)))
 
 put-requires : tie.Need-put-requires
 put-requires c κs =
     let s = c .before .before .before .before .before .before .before in
     let ready = fitted-ready (s .pre .0) in
-    (rw (pointer-here (c .before .before)) (inside-cell ready (test-sound 2 _ _ (s .pre .1) .inside (s .args .slot) (s .pre .2))), ready .paired)
+    (rw (pointer-here (c .before .before)) (inside-cell ready (test-sound two _ _ (s .pre .1) .inside (s .args .slot) (s .pre .2))), ready .paired)
 
 same-length : tie.Need-same-length
 same-length c = search needs
@@ -53,24 +54,24 @@ same-length-2 : tie.Need-same-length-2
 same-length-2 c = search needs
 
 returns : tie.Need-returns
-returns c = sym (slot-put 2 _ _ _ _ (pointer-here (c .before .before .before .before .before .before .before .before)) (c .before .before .before .before .before .put .ensures) (c .if1 .taken))
+returns c = sym (slot-put two _ _ _ _ (pointer-here (c .before .before .before .before .before .before .before .before)) (c .before .before .before .before .before .put .ensures) (c .if1 .taken))
 
 -- the put failed, and left the chip as it was
 same-chip : (c : tie.Else1) → chip (c .before .before .before .before .before .put .last .0) (c .before .before .before .before .before .put .last .1 .0) ≡ chip (now (c .before .before .before .before .before .before .before .before .before .before .before .before .before .args .image)) (now (c .before .before .before .before .before .before .before .before .before .before .before .before .before .args .lives))
-same-chip c = slot-same 2 (c .before .before .before .before .before .before .before .before .before .before .before .before .before .args .p) (c .before .before .before .before .before .before .before .before .before .before .before .before .before .args .slot) _ _ (pointer-here (c .before .before .before .before .before .before .before .before)) (c .before .before .before .before .before .put .ensures) (fitted-ready (c .before .before .before .before .before .before .before .before .before .before .before .before .before .pre .0) .paired) (c .if1 .left)
+same-chip c = slot-same two (c .before .before .before .before .before .before .before .before .before .before .before .before .before .args .p) (c .before .before .before .before .before .before .before .before .before .before .before .before .before .args .slot) _ _ (pointer-here (c .before .before .before .before .before .before .before .before)) (c .before .before .before .before .before .put .ensures) (fitted-ready (c .before .before .before .before .before .before .before .before .before .before .before .before .before .pre .0) .paired) (c .if1 .left)
 
 move-slot-requires : tie.Need-move-slot-requires
 move-slot-requires c κs =
     let s = c .before .before .before .before .before .before .before .before .before .before .before .before .before .before .before in
     let same = same-chip (c .before .before) in
-    (ap (fitted 2 (s .args .p)) same ∙ s .pre .0, ap (λ (t : Chip). sound 2 (s .args .p) (pointers 2 (s .args .p) t)) same ∙ s .pre .1, s .pre .2)
+    (ap (fitted two (s .args .p)) same ∙ s .pre .0, ap (λ (t : Chip). sound two (s .args .p) (pointers two (s .args .p) t)) same ∙ s .pre .1, s .pre .2)
 
 behind-requires : tie.Need-behind-requires
 behind-requires c κs =
     let failed = c .before .before .before .before .before .before .before in
     let s = failed .before .before .before .before .before .before .before .before .before .before .before .before .before in
     let put = put-few _ _ _ (failed .before .before .before .before .before .put .ensures) in
-    let ready = fitted-ready (ap (fitted 2 (s .args .p)) (same-chip failed) ∙ s .pre .0) in
+    let ready = fitted-ready (ap (fitted two (s .args .p)) (same-chip failed) ∙ s .pre .0) in
     let moved = move-few ready _ _ (c .before .before .before .before .move-slot .ensures) in
     (omega arith, omega arith, omega arith, omega arith)
 
@@ -85,7 +86,7 @@ returns-2 c =
     let failed = c .before .before .before .before .before .before .before .before in
     let put = failed .before .before .before .before .before in
     c .behind .ensures _
-    ∙ sym (slot-moved 2 _ _ _ _ (pointer-here (put .before .before .before)) (put .put .ensures) (failed .if1 .left) (c .before .before .before .before .before .move-slot .ensures))
+    ∙ sym (slot-moved two _ _ _ _ (pointer-here (put .before .before .before)) (put .put .ensures) (failed .if1 .left) (c .before .before .before .before .before .move-slot .ensures))
 
 pub store-slot-spec : {M : Type 1} → statement M
 store-slot-spec =

@@ -1,0 +1,23 @@
+-- How a count is laid out on a chip. What depends on it is over the layout; the doors of this delivery are its instance at
+-- two copies.
+use Prim.Native.Nat.{ℕ, _+_, _*_}
+
+pub record Layout : Type 0 where
+  -- how often the count is kept
+  pub copies : ℕ
+
+-- the layout of this delivery
+abbrev pub two : Layout
+two = record { copies = 2 }
+
+-- slot k stands for nibble k % 8 of copy k / 8
+abbrev pub slots : Layout → ℕ
+slots layout = 8 * layout .copies
+
+-- the map cells of a copy
+abbrev pub copyCells : ℕ
+copyCells = 11
+
+-- the cells of the map: the mark's two, and those of each copy
+abbrev pub mapCells : Layout → ℕ
+mapCells layout = 2 + copyCells * layout .copies
