@@ -24,21 +24,24 @@ extern "C" {
     0  good
     1  n is outside 41..4096, or lives_n is not n
     2  the places m, s and e are not good ones
-    3  no mark at m: the image was never opened (not from lyre_open, which then opens it for the first time)
+    3  no mark at m: the image was never opened, or its first opening did not come to an end, or the mark is damaged. lyre_open
+       never answers this: it then opens the image for the first time, from count 0
     4  the mark is there, but the map is not sound
     5  a nibble is lost in both copies; place is the lowest such nibble, 0 to 7
     6  the copies disagree; lag says by how much, and is neither 0 nor 1
     7  a step at the highest count, 4294967295
     8  no spare of the kind holds; place is the nibble, plus 8 in copy 2; cells and lives stay as written so far, and writes and
-       tried say what was done
-    9  a cell of the map does not take its byte; place is its address; the rest as for 8
+       tried say what was done. A step refused so may have counted already: lyre_read then gives the next count, with lag 1
+    9  a cell of the map does not take its byte; place is its address; the rest as for 8. Where it was the second byte of a
+       pointer, the map may be left unsound, so that every call is refused 4 from then on, or with a pointer to some other cell:
+       lyre_read may then be refused, or answer another count, a lower one too
    10  a byte one bit from two codes; place is the nibble (never met: no two codes are that near)
    16  a copy other than 1 or 2 was asked of lyre_map_part */
 
 typedef struct {
     uint32_t code;   /* 0, or the number of the refusal */
     uint32_t count;  /* the turns counted; after a step the new count; 0 on a refusal */
-    int64_t lag;     /* copy 1 less copy 2 as they were read: 0, or 1 after a step that was stopped; any other in refusal 6 */
+    int64_t lag;     /* copy 1 less copy 2 as they were found: 0, or 1 after a step that was stopped; any other in refusal 6 */
     uint64_t place;  /* where a refusal points, else 0 */
     uint64_t writes; /* cell writes asked for in this call, those that a worn cell did not take included */
     uint64_t tried;  /* spare cells tried in this call; 0 in a first opening */
@@ -53,13 +56,15 @@ typedef struct {
 /* In all four: n bytes of image, the map's 24 cells from m, the area from s to e, e included. lives[i] is the number of good
    writes left in cell i, and lives_n has to be n. */
 
-/* Opens the image: settles a count that is there, or makes map and count 0 where there is no mark. */
+/* Opens the image: settles a count that is there, or makes map and count 0 where there is no mark.
+   Beware: an image whose mark is damaged has none. It is counted from 0 again, and the old count is lost. Where a count is
+   expected, call lyre_read first, and do not open on refusal 3. */
 lyre_answer lyre_open(uint8_t *image, size_t n, uint32_t *lives, size_t lives_n, size_t m, size_t s, size_t e);
 
 /* Reads the count and writes nothing. */
 lyre_answer lyre_read(const uint8_t *image, size_t n, size_t m, size_t s, size_t e);
 
-/* Settles the count that is there and stores one more. */
+/* Settles the count that is there and stores one more. After refusal 8 or 9 call lyre_read: the step may have counted. */
 lyre_answer lyre_step(uint8_t *image, size_t n, uint32_t *lives, size_t lives_n, size_t m, size_t s, size_t e);
 
 /* Says where in the image the pointers of copy 1 or 2 stand. The count need not be readable for it. */

@@ -69,6 +69,7 @@ says 'what it prints in the crate' "$(cmp "$root/examples/setting-a.txt" "$root/
 says 'standard input' "$("$root/look" <"$example"; printf .)" "$(answer 0 3 0 0)"
 says 'a pipe' "$(cat "$example" | "$root/look"; printf .)" "$(answer 0 3 0 0)"
 says 'another folder' "$(cd "$work" && cp "$example" 'a chip' && "$root/look" 'a chip'; printf .)" "$(answer 0 3 0 0)"
+says 'a link' "$(cd "$work" && ln -s "$root/look" 'a name' && './a name' 'a chip'; printf .)" "$(answer 0 3 0 0)"
 
 # inputs that are no image
 refused 'a missing file' "$work/missing"

@@ -1,6 +1,7 @@
 #!/bin/sh
 # tests/promised.sh: every public function of a library crate has an `ensures`, and it is proved that its contract leaves one answer;
-# no door of the counter or for C has a `requires`; and no definition but the inside's own rests on the counter's specs/Inside.antt.
+# no door of the counter or for C has a `requires`; no definition but the inside's own rests on the counter's specs/Inside.antt; and
+# only the cells index lives, so that what they promise is all that the crates above them know of lives.
 set -eu
 cd "$(dirname "$0")/.."
 
@@ -29,4 +30,6 @@ public | awk '{ print $2 }' | while read -r name; do
     grep -Eq "^ *pub $theorem : Sole 𝓤 ${name}s?\.ended " crates/promises/proofs/NoSecond.antt || echo "$name"
 done | grep . && { echo 'promised: of these it is not proved that they leave one answer'; exit 1; }
 grep -l 'specs\.Inside' crates/*/specs/*.antt && { echo 'promised: these rest on the inside'; exit 1; }
-echo 'promised: every public function of a library promises and leaves one answer, and no door asks'
+# chips.rt makes the chips of the cases, lives and all.
+grep -rnE 'lives *\[' crates/*/src | grep -Ev '^crates/(cells/|cases/src/chips\.rt:)' && { echo 'promised: these index lives'; exit 1; }
+echo 'promised: every public function of a library promises and leaves one answer, no door asks, and only the cells index lives'

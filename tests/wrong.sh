@@ -1,13 +1,21 @@
 #!/bin/sh
-# tests/wrong.sh: tries the wrong programs of crates/counter/wrong, edits in the form that rt has, and fails unless the prover
-# refuses each. rt proves a whole crate again for each edit; here one is tried over what was proved just before, so that only what it
-# touches is proved again. `tests/wrong.sh whole` tries each from nothing, as rt does.
+# tests/wrong.sh [whole] [CRATE..]: tries the wrong programs in the wrong/ folders of the crates, or of those named, edits in the form
+# that rt has, and fails unless the prover refuses each. rt proves a whole crate again for each edit; here one is tried over what was
+# proved just before, so that only what it touches is proved again. `whole` tries each from nothing, as rt does.
 set -eu
 cd "$(dirname "$0")/.."
-kind=${1:-quick}
+kind=quick
+[ "${1:-}" != whole ] || { kind=whole; shift; }
+[ $# -gt 0 ] || set -- $(ls -d crates/*/wrong | cut -d / -f 2)
 work=$(mktemp -d)
 trap 'rm -rf "$work"' EXIT
+tried=0
+
+# What stands is proved from nothing, in a folder of its own.
 stands=$work/stands
+mkdir "$stands"
+cp -R crates.txt crates "$stands"
+cd "$stands"
 
 # apply EDIT FOLDER: a 'file:' line holds for the 'old:' and 'new:' pairs after it, and an old text stands in the file once.
 apply() {
@@ -31,24 +39,24 @@ apply() {
     done <"$1"
 }
 
-# try EDIT: leaves a line in NAME.line, and NAME.refused where the prover refused the edit. Where the first error says that something
-# 'has no' part of some name, a proof no longer fits the code, and the refusal does not count. That is the usual sign and not the
-# only one: whether a fact failed is for a reader of the first error.
+# try EDIT: an edit of $crate. Leaves a line in NAME.line, and NAME.refused where the prover refused the edit. Where the first error
+# says that something 'has no' part of some name, a proof no longer fits the code, and the refusal does not count. That is the usual
+# sign and not the only one: whether a fact failed is for a reader of the first error.
 try() {
-    name=$(basename "$1" .edit)
+    name=$crate/$(basename "$1" .edit)
     place=$work/$name
     mkdir -p "$place/target/inc"
     cp -R crates.txt crates "$place"
     ln -s "$stands/target/rlib" "$stands/target/stamp" "$place/target"
-    [ "$kind" = whole ] || cp -R "$stands/target/inc/counter" "$place/target/inc"
-    if ! apply "$1" "$place/crates/counter"; then
+    [ "$kind" = whole ] || cp -R "target/inc/$crate" "$place/target/inc"
+    if ! apply "$1" "$place/crates/$crate"; then
         echo "wrong: $name: BAD EDIT: an old text does not stand in its file once" >"$place.line"
         return
     fi
     status=0
-    (cd "$place" && rt dev counter) >"$place.said" 2>&1 || status=$?
+    (cd "$place" && rt dev "$crate") >"$place.said" 2>&1 || status=$?
     first=$(grep -m 1 ': error: ' "$place.said" || true)
-    at=${first#"$place"/crates/counter/}
+    at=${first#"$place/crates/$crate/"}
     case "$status $first" in
     '0 '*) echo "wrong: $name: NOT REFUSED" ;;
     '1 '*' has no '*) echo "wrong: $name: refused, but for no fact: $first" ;;
@@ -61,21 +69,23 @@ try() {
     rm -rf "$place"
 }
 
-# What stands is proved from nothing, in a folder of its own, so that a refusal is the edit's.
-mkdir "$stands"
-cp -R crates.txt crates "$stands"
-(cd "$stands" && rt dev counter) >"$work/said" 2>&1 || { cat "$work/said"; echo 'wrong: the counter is not proved as it stands'; exit 1; }
+# try_all: the edits of $crate, two at a time. The crate is proved as it stands before, with all that it depends on, so that a
+# refusal is the edit's.
+try_all() {
+    rt dev "$crate" >"$work/said" 2>&1 || { cat "$work/said"; echo "wrong: $crate is not proved as it stands"; exit 1; }
+    set -- "crates/$crate/wrong"/*.edit
+    tried=$((tried + $#))
+    while [ $# -gt 0 ]; do
+        try "$1" &
+        [ $# -lt 2 ] || try "$2" &
+        wait
+        for edit in "$1" ${2:+"$2"}; do cat "$work/$crate/$(basename "$edit" .edit).line"; done
+        shift
+        [ $# -eq 0 ] || shift
+    done
+}
 
-set -- crates/counter/wrong/*.edit
-tried=$#
-while [ $# -gt 0 ]; do
-    try "$1" &
-    [ $# -lt 2 ] || try "$2" &
-    wait
-    for edit in "$1" ${2:+"$2"}; do cat "$work/$(basename "$edit" .edit).line"; done
-    shift
-    [ $# -eq 0 ] || shift
-done
+for crate in "$@"; do try_all; done
 refused=$(find "$work" -name '*.refused' | wc -l)
 echo "wrong: $refused of $tried wrong programs refused"
-[ "$refused" -eq "$tried" ]
+[ "$refused" -eq "$tried" ] && [ "$tried" -gt 0 ]

@@ -5,7 +5,6 @@
 --   store-held                storing a count that all slots hold asks nothing and changes nothing
 --   held-next                 behind which comes the next count alone
 --   next-stored, next-is      storing the next count is storing the changed nibble's slot in each copy
---   next-other                those slots hold another byte
 use Prim.Native.Nat.{ℕ, zero, suc, _+_, _-_, _/_, _%_, _^_, _≤_, _<_}
 use mathlib.Core.Path.{_≡_, refl, sym, ap, _∙_}
 use mathlib.Core.Bool.{true}
@@ -171,8 +170,3 @@ module _ (p : Places) (c : ℕ) (s : Chip) (good : fitted two p s ≡ true) (wel
       rw here
       (next-stored p c s (omega arith) (fitted-ready good) (test-sound two p _ well) held
       ∙ rw (code-is (changedNibble c) (omega arith), code-is (8 + changedNibble c) (omega arith)))
-
-  pub next-other : (j : ℕ) → j < 16 → j % 8 ≡ k → dataOf two p s j ≡ b → ⊥
-  next-other j l e same =
-      let at : j % 8 ≡ changedNibble c = e ∙ here in
-      step-changed c (omega arith) j at (sym (held j l) ∙ same ∙ sym (code-is j at))

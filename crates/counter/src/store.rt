@@ -6,12 +6,11 @@ ghost use Prim.Native.Nat.{_+_, _≤_, _<_};
 ghost use lib.ListN.{length};
 ghost use Rattle.cells.specs.Chip.{Chip, chip};
 ghost use Rattle.cells.specs.Run.{seen, view, plus};
-ghost use Rattle.counter.specs.Layout.{two};
+ghost use Rattle.counter.specs.Layout.{two, slots};
 ghost use Rattle.counter.specs.Slots.{kindOf};
 ghost use Rattle.counter.specs.Places.{placesGood, fitted};
 ghost use Rattle.counter.specs.Map.{mapIn, pointerOf, sound, reachable};
 ghost use Rattle.counter.specs.Verdict.{_andThen_};
-ghost use Rattle.counter.specs.Reading.{dataAt};
 ghost use Rattle.counter.specs.Store.{mapped, putPointer, trySpares, moveSlot, storeSlot, store};
 ghost use Rattle.counter.specs.Inside.{stopped, Holds};
 use super::map::Map;
@@ -26,7 +25,6 @@ use super::spares::way_of;
 use super::verdict::Refusal;
 use super::verdict::Work;
 use cells::put::put;
-use cells::put::write;
 use cells::row::Found;
 use cells::row::RowPut;
 use cells::row::Walked;
@@ -140,14 +138,18 @@ fn move_slot(image: &mut [u8], lives: &mut [u32], p: Places, slot: usize, byte: 
     }
 }
 
-// A byte put at a slot's cell, and moved if the put fails.
-fn store_slot(image: &mut [u8], lives: &mut [u32], p: Places, slot: usize, byte: u8) -> Stored
-    requires { ⌜ (fitted two p (chip (now image) (now lives)) ≡ true) × (sound two p (pointerOf (mapIn two p (now image))) ≡ true) × (slot < 16) ⌝ }
+// A byte put at a slot's cell, whose address is known, and moved if the put fails.
+fn store_at(
+    image: &mut [u8],
+    lives: &mut [u32],
+    p: Places,
+    slot: usize,
+    at: usize,
+    byte: u8,
+) -> Stored
+    requires { ⌜ (fitted two p (chip (now image) (now lives)) ≡ true) × (sound two p (pointerOf (mapIn two p (now image))) ≡ true) × (slot < slots two) × (at ≡ pointerOf (mapIn two p (now image)) slot) ⌝ }
     ensures { λ r. ⌜ seen (r .work) (r .writes) (r .tried) (chip (now (image .exit)) (now (lives .exit))) ≡ view (storeSlot two p slot byte (chip (now (image .entry)) (now (lives .entry)))) ⌝ }
 {
-    let from = p.map;
-    let to = from + Map::SIZE;
-    let at = pointer_of(&image[from..to], slot);
     let done = put(image, lives, at, byte);
     if done.held {
         return Stored {
@@ -157,6 +159,17 @@ fn store_slot(image: &mut [u8], lives: &mut [u32], p: Places, slot: usize, byte:
         };
     }
     behind(done.writes, 0, move_slot(image, lives, p, slot, byte))
+}
+
+// A byte stored in a slot.
+fn store_slot(image: &mut [u8], lives: &mut [u32], p: Places, slot: usize, byte: u8) -> Stored
+    requires { ⌜ (fitted two p (chip (now image) (now lives)) ≡ true) × (sound two p (pointerOf (mapIn two p (now image))) ≡ true) × (slot < slots two) ⌝ }
+    ensures { λ r. ⌜ seen (r .work) (r .writes) (r .tried) (chip (now (image .exit)) (now (lives .exit))) ≡ view (storeSlot two p slot byte (chip (now (image .entry)) (now (lives .entry)))) ⌝ }
+{
+    let from = p.map;
+    let to = from + Map::SIZE;
+    let at = pointer_of(&image[from..to], slot);
+    store_at(image, lives, p, slot, at, byte)
 }
 
 // A count stored: copy 1, nibbles 0 to 7, then copy 2 the same.
@@ -206,22 +219,6 @@ pub(crate) fn settle(
     store_count(image, lives, p, count)
 }
 
-// A byte stored in both slots of a nibble, copy 1 first.
-fn store_pair(image: &mut [u8], lives: &mut [u32], p: Places, nibble: usize, byte: u8) -> Stored
-    requires { ⌜ (fitted two p (chip (now image) (now lives)) ≡ true) × (sound two p (pointerOf (mapIn two p (now image))) ≡ true) × (nibble < 8) ⌝ }
-    ensures { λ r. ⌜ seen (r .work) (r .writes) (r .tried) (chip (now (image .exit)) (now (lives .exit))) ≡ view (storeSlot two p nibble byte (chip (now (image .entry)) (now (lives .entry))) andThen storeSlot two p (8 + nibble) byte) ⌝ }
-{
-    let first = store_slot(image, lives, p, nibble, byte);
-    if is_stopped(first) {
-        return first;
-    }
-    behind(
-        first.writes,
-        first.tried,
-        store_slot(image, lives, p, 8 + nibble, byte),
-    )
-}
-
 // The cells of a nibble, in copy 1 and in copy 2.
 struct Pair {
     one: usize,
@@ -240,26 +237,31 @@ fn cells_of(image: &[u8], p: Places, nibble: usize) -> Pair
     }
 }
 
-// A byte stored in both slots of a nibble, where neither holds it: two writes, unless a cell is worn.
-fn store_both(image: &mut [u8], lives: &mut [u32], p: Places, nibble: usize, byte: u8) -> Stored
-    requires { ⌜ (fitted two p (chip (now image) (now lives)) ≡ true) × (sound two p (pointerOf (mapIn two p (now image))) ≡ true) × (nibble < 8) × (dataAt (now image) (mapIn two p (now image)) nibble ≡ byte → ⊥) × (dataAt (now image) (mapIn two p (now image)) (8 + nibble) ≡ byte → ⊥) ⌝ }
+// A byte stored in both slots of a nibble, copy 1 first. As a rule both puts hold, and the map says once where.
+fn store_pair(image: &mut [u8], lives: &mut [u32], p: Places, nibble: usize, byte: u8) -> Stored
+    requires { ⌜ (fitted two p (chip (now image) (now lives)) ≡ true) × (sound two p (pointerOf (mapIn two p (now image))) ≡ true) × (nibble < 8) ⌝ }
     ensures { λ r. ⌜ seen (r .work) (r .writes) (r .tried) (chip (now (image .exit)) (now (lives .exit))) ≡ view (storeSlot two p nibble byte (chip (now (image .entry)) (now (lives .entry))) andThen storeSlot two p (8 + nibble) byte) ⌝ }
 {
     let cells = cells_of(image, p, nibble);
     let one = cells.one;
     let other = cells.other;
-    if lives[one] != 0 {
-        if lives[other] != 0 {
-            write(image, lives, one, byte);
-            write(image, lives, other, byte);
-            return Stored {
-                work: Work::Done,
-                writes: 2,
-                tried: 0,
-            };
-        }
+    let done = put(image, lives, one, byte);
+    if done.held {
+        return behind(
+            done.writes,
+            0,
+            store_at(image, lives, p, 8 + nibble, other, byte),
+        );
     }
-    store_pair(image, lives, p, nibble, byte)
+    let first = behind(done.writes, 0, move_slot(image, lives, p, nibble, byte));
+    if is_stopped(first) {
+        return first;
+    }
+    behind(
+        first.writes,
+        first.tried,
+        store_slot(image, lives, p, 8 + nibble, byte),
+    )
 }
 
 // The next count stored where all slots hold a count's codes: one nibble changes, in each copy.
@@ -270,5 +272,5 @@ pub(crate) fn store_next(image: &mut [u8], lives: &mut [u32], p: Places, count: 
     let next = count + 1;
     let nibble = (changed_bit(next) / 4) as usize;
     let byte = code_of(nibble_of(gray_of(next), nibble));
-    store_both(image, lives, p, nibble, byte)
+    store_pair(image, lives, p, nibble, byte)
 }

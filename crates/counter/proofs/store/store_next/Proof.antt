@@ -8,7 +8,7 @@ use Rattle.code.specs.Nibbles.{nibbleOf}
 use Rattle.code.proofs.ChangeLaws.{step-nibble-small}
 use Rattle.cells.specs.Run.{Run, view}
 use Rattle.counter.specs.declared.verdict.Work.{Work}
-use Rattle.counter.proofs.NextStores.{changedNibble, next-is, next-other}
+use Rattle.counter.proofs.NextStores.{changedNibble, next-is}
 use borrow.Author.Needs.{needs}
 use Rattle.counter.proofs.store.store_next.Statement.{statement}
 use Rattle.counter.proofs.store.store_next.Tie as tie
@@ -43,14 +43,11 @@ nibble-of-requires c κs = search needs
 code-of-requires : tie.Need-code-of-requires
 code-of-requires c κs = search needs
 
-store-both-requires : tie.Need-store-both-requires
-store-both-requires c κs =
-    let coded = c .before .before in
-    let changed = coded .before .before .before in
+store-pair-requires : tie.Need-store-pair-requires
+store-pair-requires c κs =
+    let changed = c .before .before .before .before .before in
     let s = changed .before .before .before in
-    let h = small changed in
-    let other = next-other _ (s .args .count) _ (s .pre .0) (s .pre .1) (s .pre .2) (s .pre .3) (here changed) (code coded) in
-    (s .pre .0, s .pre .1, h, other _ (omega arith) (omega arith), other _ (omega arith) (omega arith))
+    (s .pre .0, s .pre .1, small changed)
 
 same-length : tie.Need-same-length
 same-length c = search needs
@@ -64,7 +61,7 @@ returns c =
     let coded = call .before .before .before in
     let changed = coded .before .before .before in
     let s = changed .before .before .before in
-    call .store-both .ensures
+    call .store-pair .ensures
     ∙ sym (ap (λ (r : Run Work). view r) (next-is _ (s .args .count) _ (s .pre .0) (s .pre .1) (s .pre .2) (s .pre .3) (here changed) (code coded)))
 
 pub store-next-spec : {M : Type 1} → statement M
@@ -77,7 +74,7 @@ store-next-spec =
     gray-of-requires
     nibble-of-requires
     code-of-requires
-    store-both-requires
+    store-pair-requires
     same-length
     same-length-2
     returns)

@@ -1,26 +1,96 @@
--- `store::store_pair` meets its contract: the first slot leaves the chip fit for the second.
-use mathlib.Core.Path.{_≡_, sym, _∙_}
+-- `store::store_pair` meets its contract: the first slot, stored where its cell is or moved, leaves the chip fit for the second.
+use Prim.Native.Nat.{_+_}
+use mathlib.Core.Path.{_≡_, refl, sym, ap, _∙_}
 use mathlib.Core.Bool.{true, false}
 use borrow.Author.Needs.{needs}
 use native.Mathlib.Omega.{arith}
-use Rattle.cells.specs.Chip.{chip}
+use Rattle.cells.specs.Chip.{Chip, chip}
+use Rattle.cells.specs.Run.{seen, view}
+use Rattle.cells.proofs.Puts.{put-few}
+use Rattle.counter.specs.declared.verdict.Work.the-variants.{Done}
 use Rattle.counter.specs.Layout.{two}
 use Rattle.counter.specs.Places.{fitted}
-use Rattle.counter.specs.Map.{mapIn, pointerOf, sound}
+use Rattle.counter.specs.Map.{sound}
 use Rattle.counter.specs.Store.{storeSlot}
 use Rattle.counter.specs.Inside.{stopped}
+use Rattle.counter.proofs.SoundPointers.{test-sound}
+use Rattle.counter.proofs.Ready.{pointers, inside-cell}
 use Rattle.counter.proofs.Fitted.{fitted-ready}
 use Rattle.counter.proofs.Behind.{behind-done, said-stopped}
-use Rattle.counter.proofs.StoreViews.{slot-settled}
-use Rattle.counter.proofs.StoreCosts.{slot-few}
+use Rattle.counter.proofs.StoreViews.{slot-put, slot-same, slot-moved, slot-settled, slot-others}
+use Rattle.counter.proofs.StoreCosts.{move-few, slot-few}
 use Rattle.counter.proofs.store.store_pair.Statement.{statement}
 use Rattle.counter.proofs.store.store_pair.Tie as tie
 
-store-slot-requires : tie.Need-store-slot-requires
-store-slot-requires c κs = search needs
+-- ## How the facts are reached
 
-is-stopped-requires : tie.Need-is-stopped-requires
-is-stopped-requires c κs = search needs
+abbrev cells : tie.After-put → tie.After-cells-of
+cells c = c .before .before .before
+
+abbrev start : tie.After-put → tie.Start
+start c = cells c .before .before .before .before
+
+abbrev held : tie.Then1 → tie.After-put
+held c = c .before .before .before .before .before
+
+abbrev failed : tie.Else1 → tie.After-put
+failed c = c .before .before .before .before .before
+
+abbrev moved : tie.After-behind2 → tie.After-move-slot
+moved c = c .before .before .before .before .before
+
+abbrev unheld : tie.After-behind2 → tie.Else1
+unheld c = moved c .before .before .before
+
+abbrev first : tie.Else2 → tie.After-behind2
+first c = c .before .before
+
+-- ## The put at the first slot's cell
+
+cells-of-requires : tie.Need-cells-of-requires
+cells-of-requires c κs = let s = c .before .before .before in (fitted-ready (s .pre .0) .good, s .pre .2)
+
+put-requires : tie.Need-put-requires
+put-requires c κs =
+    let cells = c .before .before in
+    let s = cells .before .before .before .before in
+    let low = s .pre .2 in
+    let ready = fitted-ready (s .pre .0) in
+    (rw (cells .cells-of .ensures .0) (inside-cell ready (test-sound two _ _ (s .pre .1) .inside _ (omega arith))), ready .paired)
+
+-- ## It holds
+
+-- the first slot is stored
+stored : (c : tie.Then1) → let s = start (held c) in let put = held c .put in
+    seen Done (put .result .writes) 0 (chip (put .last .0) (put .last .1 .0)) ≡ view (storeSlot two (s .args .p) (s .args .nibble) (s .args .byte) (chip (s .args .image .now) (s .args .lives .now)))
+stored c = sym (slot-put two _ _ _ _ (cells (held c) .cells-of .ensures .0) (held c .put .ensures) (c .if1 .taken))
+
+add-store-at : tie.Need-add-store-at
+add-store-at c = search needs
+
+-- the chip is fit for the second slot, whose pointer is as it was
+next-fit : (c : tie.Then1) → let s = start (held c) in let p = s .args .p in
+    let t = chip (held c .put .last .0) (held c .put .last .1 .0) in
+    (fitted two p t ≡ true) × (sound two p (pointers two p t) ≡ true) × (cells (held c) .cells-of .result .other ≡ pointers two p t (8 + s .args .nibble))
+next-fit c =
+    let s = start (held c) in
+    let low = s .pre .2 in
+    let fit = slot-settled two _ _ (s .pre .0) (s .pre .1) _ _ (omega arith) (stored c) refl in
+    (fit .0, fit .1, cells (held c) .cells-of .ensures .1 ∙ sym (slot-others two _ _ (s .pre .0) (s .pre .1) _ _ (omega arith) (stored c) _ (omega arith) (λ e. omega arith)))
+
+store-at-requires : tie.Need-store-at-requires
+store-at-requires c κs =
+    let fit = next-fit (c .before .before) in
+    let low = start (held (c .before .before)) .pre .2 in
+    (fit .0, fit .1, omega arith, fit .2)
+
+behind-requires : tie.Need-behind-requires
+behind-requires c κs =
+    let call = c .before .before .before .before in
+    let then = call .before .before .before in
+    let put = put-few _ _ _ (held then .put .ensures) in
+    let second = slot-few (fitted-ready (next-fit then .0)) _ _ (call .store-at .ensures) in
+    (omega arith, omega arith, omega arith, omega arith)
 
 same-length : tie.Need-same-length
 same-length c = search needs
@@ -29,39 +99,45 @@ same-length-2 : tie.Need-same-length-2
 same-length-2 c = search needs
 
 returns : tie.Need-returns
-returns c = sym (said-stopped (storeSlot two _ _ _ _) (storeSlot two _ _ _) (c .before .before .before .before .before .before .store-slot .ensures) (sym (c .before .is-stopped .ensures) ∙ c .if1 .taken))
+returns c =
+    let call = c .before .before .before .before .before in
+    c .behind .ensures _ ∙ behind-done (storeSlot two _ _ _ _) (storeSlot two _ _ _) (stored (call .before .before .before)) refl (call .store-at .ensures)
 
--- the first slot was not stopped
-done : (c : tie.Else1) → stopped (c .before .before .before .before .before .before .store-slot .result .work) ≡ false
-done c = sym (c .before .is-stopped .ensures) ∙ c .if1 .left
+-- ## It fails
 
--- and leaves the chip fit for the second
-settled : (c : tie.Else1) → let first = c .before .before .before .before .before .before in
-    let p = first .before .before .before .before .before .args .p in
-    let cells = first .store-slot .last .0 in
-    (fitted two p (chip cells (first .store-slot .last .1 .0)) ≡ true) × (sound two p (pointerOf (mapIn two p cells)) ≡ true)
-settled c =
-    let first = c .before .before .before .before .before .before in
-    let s = first .before .before .before .before .before in
-    let low = s .pre .2 in
-    slot-settled two _ _ (s .pre .0) (s .pre .1) _ _ (omega arith) (first .store-slot .ensures) (done c)
+-- and leaves the chip as it was, fit for the move
+still-fit : (c : tie.Else1) → let p = start (failed c) .args .p in
+    let t = chip (failed c .put .last .0) (failed c .put .last .1 .0) in
+    (fitted two p t ≡ true) × (sound two p (pointers two p t) ≡ true)
+still-fit c =
+    let s = start (failed c) in
+    let same = slot-same two (s .args .p) (s .args .nibble) _ _ (cells (failed c) .cells-of .ensures .0) (failed c .put .ensures) (fitted-ready (s .pre .0) .paired) (c .if1 .left) in
+    (ap (fitted two (s .args .p)) same ∙ s .pre .0, ap (λ (t : Chip). sound two (s .args .p) (pointers two (s .args .p) t)) same ∙ s .pre .1)
 
-add-store-slot : tie.Need-add-store-slot
-add-store-slot c = search needs
-
-store-slot-requires-2 : tie.Need-store-slot-requires-2
-store-slot-requires-2 c κs =
-    let fit = settled (c .before .before) in
-    let low = c .before .before .before .before .before .before .before .before .before .before .before .before .before .pre .2 in
+move-slot-requires : tie.Need-move-slot-requires
+move-slot-requires c κs =
+    let fit = still-fit (c .before .before) in
+    let low = start (failed (c .before .before)) .pre .2 in
     (fit .0, fit .1, omega arith)
 
-behind-requires : tie.Need-behind-requires
-behind-requires c κs =
-    let second = c .before .before .before .before in
-    let first = second .before .before .before .before .before .before .before .before .before in
-    let one = slot-few (fitted-ready (first .before .before .before .before .before .pre .0)) _ _ (first .store-slot .ensures) in
-    let other = slot-few (fitted-ready (settled (second .before .before .before) .0)) _ _ (second .store-slot2 .ensures) in
+behind-requires-2 : tie.Need-behind-requires-2
+behind-requires-2 c κs =
+    let call = c .before .before .before .before in
+    let other = call .before .before .before in
+    let put = put-few _ _ _ (failed other .put .ensures) in
+    let move = move-few (fitted-ready (still-fit other .0)) _ _ (call .move-slot .ensures) in
     (omega arith, omega arith, omega arith, omega arith)
+
+is-stopped-requires : tie.Need-is-stopped-requires
+is-stopped-requires c κs = search needs
+
+-- the first slot is stored or stopped
+moved-first : (c : tie.After-behind2) → let s = start (failed (unheld c)) in let leaves = chip (moved c .move-slot .last .0) (moved c .move-slot .last .1 .0) in
+    seen (c .behind2 .result .work) (c .behind2 .result .writes) (c .behind2 .result .tried) leaves ≡ view (storeSlot two (s .args .p) (s .args .nibble) (s .args .byte) (chip (s .args .image .now) (s .args .lives .now)))
+moved-first c =
+    let other = unheld c in
+    c .behind2 .ensures _
+    ∙ sym (slot-moved two _ _ _ _ (cells (failed other) .cells-of .ensures .0) (failed other .put .ensures) (other .if1 .left) (moved c .move-slot .ensures))
 
 same-length-3 : tie.Need-same-length-3
 same-length-3 c = search needs
@@ -70,23 +146,74 @@ same-length-4 : tie.Need-same-length-4
 same-length-4 c = search needs
 
 returns-2 : tie.Need-returns-2
-returns-2 c =
-    let second = c .before .before .before .before .before in
-    let first = second .before .before .before .before .before .before .before .before .before .store-slot in
-    c .behind .ensures _ ∙ behind-done (storeSlot two _ _ _ _) (storeSlot two _ _ _) (first .ensures) (done (second .before .before .before)) (second .store-slot2 .ensures)
+returns-2 c = sym (said-stopped (storeSlot two _ _ _ _) (storeSlot two _ _ _) (moved-first (c .before .before)) (sym (c .before .is-stopped .ensures) ∙ c .if2 .taken))
+
+-- it was not stopped
+done : (c : tie.Else2) → stopped (first c .behind2 .result .work) ≡ false
+done c = sym (c .before .is-stopped .ensures) ∙ c .if2 .left
+
+-- and leaves the chip fit for the second
+settled : (c : tie.Else2) → let p = start (failed (unheld (first c))) .args .p in
+    let t = chip (moved (first c) .move-slot .last .0) (moved (first c) .move-slot .last .1 .0) in
+    (fitted two p t ≡ true) × (sound two p (pointers two p t) ≡ true)
+settled c =
+    let s = start (failed (unheld (first c))) in
+    let low = s .pre .2 in
+    slot-settled two _ _ (s .pre .0) (s .pre .1) _ _ (omega arith) (moved-first (first c)) (done c)
+
+add-store-slot : tie.Need-add-store-slot
+add-store-slot c = let low = start (failed (unheld (first (c .before .before)))) .pre .2 in omega arith
+
+store-slot-requires : tie.Need-store-slot-requires
+store-slot-requires c κs =
+    let fit = settled (c .before .before) in
+    let low = start (failed (unheld (first (c .before .before)))) .pre .2 in
+    (fit .0, fit .1, omega arith)
+
+behind-requires-3 : tie.Need-behind-requires-3
+behind-requires-3 c κs =
+    let call = c .before .before .before .before in
+    let other = call .before .before .before in
+    let one = slot-few (fitted-ready (start (failed (unheld (first other))) .pre .0)) _ _ (moved-first (first other)) in
+    let second = slot-few (fitted-ready (settled other .0)) _ _ (call .store-slot .ensures) in
+    (omega arith, omega arith, omega arith, omega arith)
+
+same-length-5 : tie.Need-same-length-5
+same-length-5 c =
+    let call = c .before .before .before .before .before in
+    let move = moved (first (call .before .before .before)) in
+    omega (arith, call .store-slot .kept, move .move-slot .kept, failed (move .before .before .before) .put .kept)
+
+same-length-6 : tie.Need-same-length-6
+same-length-6 c = search needs
+
+returns-3 : tie.Need-returns-3
+returns-3 c =
+    let call = c .before .before .before .before .before in
+    let other = call .before .before .before in
+    c .behind3 .ensures _ ∙ behind-done (storeSlot two _ _ _ _) (storeSlot two _ _ _) (moved-first (first other)) (done other) (call .store-slot .ensures)
 
 pub store-pair-spec : {M : Type 1} → statement M
 store-pair-spec =
     tie.close
     (tie.spec
-    store-slot-requires
-    is-stopped-requires
+    cells-of-requires
+    put-requires
+    add-store-at
+    store-at-requires
+    behind-requires
     same-length
     same-length-2
     returns
-    add-store-slot
-    store-slot-requires-2
-    behind-requires
+    move-slot-requires
+    behind-requires-2
+    is-stopped-requires
     same-length-3
     same-length-4
-    returns-2)
+    returns-2
+    add-store-slot
+    store-slot-requires
+    behind-requires-3
+    same-length-5
+    same-length-6
+    returns-3)

@@ -1,0 +1,90 @@
+-- `store::store_at` meets its contract: the put at the slot's cell holds, or leaves the chip as it was for the move.
+use mathlib.Core.Path.{_≡_, sym, ap, _∙_}
+use mathlib.Core.Bool.{true}
+use borrow.Author.Needs.{needs}
+use native.Mathlib.Omega.{arith}
+use Rattle.cells.specs.Chip.{Chip, chip}
+use Rattle.cells.proofs.Puts.{put-few}
+use Rattle.counter.specs.Layout.{two}
+use Rattle.counter.specs.Places.{fitted}
+use Rattle.counter.specs.Map.{sound}
+use Rattle.counter.proofs.SoundPointers.{test-sound}
+use Rattle.counter.proofs.Ready.{pointers, inside-cell}
+use Rattle.counter.proofs.Fitted.{fitted-ready}
+use Rattle.counter.proofs.StoreViews.{slot-put, slot-same, slot-moved}
+use Rattle.counter.proofs.StoreCosts.{move-few}
+use Rattle.counter.proofs.store.store_at.Statement.{statement}
+use Rattle.counter.proofs.store.store_at.Tie as tie
+
+abbrev start : tie.After-put → tie.Start
+start c = c .before .before .before .before .before
+
+-- the put that failed
+abbrev failed : tie.Else1 → tie.After-put
+failed c = c .before .before .before .before .before
+
+put-requires : tie.Need-put-requires
+put-requires c κs =
+    let s = c .before .before .before .before in
+    let ready = fitted-ready (s .pre .0) in
+    (rw (s .pre .3) (inside-cell ready (test-sound two _ _ (s .pre .1) .inside _ (s .pre .2))), ready .paired)
+
+same-length : tie.Need-same-length
+same-length c = search needs
+
+same-length-2 : tie.Need-same-length-2
+same-length-2 c = search needs
+
+returns : tie.Need-returns
+returns c =
+    let put = c .before .before .before .before .before in
+    sym (slot-put two _ _ _ _ (start put .pre .3) (put .put .ensures) (c .if1 .taken))
+
+-- it left the chip as it was, fit for the move
+still-fit : (c : tie.Else1) → let s = start (failed c) in
+    let t = chip (failed c .put .last .0) (failed c .put .last .1 .0) in
+    (fitted two (s .args .p) t ≡ true) × (sound two (s .args .p) (pointers two (s .args .p) t) ≡ true)
+still-fit c =
+    let s = start (failed c) in
+    let same = slot-same two (s .args .p) (s .args .slot) _ _ (s .pre .3) (failed c .put .ensures) (fitted-ready (s .pre .0) .paired) (c .if1 .left) in
+    (ap (fitted two (s .args .p)) same ∙ s .pre .0, ap (λ (t : Chip). sound two (s .args .p) (pointers two (s .args .p) t)) same ∙ s .pre .1)
+
+move-slot-requires : tie.Need-move-slot-requires
+move-slot-requires c κs =
+    let fit = still-fit (c .before .before) in
+    (fit .0, fit .1, start (failed (c .before .before)) .pre .2)
+
+behind-requires : tie.Need-behind-requires
+behind-requires c κs =
+    let call = c .before .before .before .before in
+    let other = call .before .before .before in
+    let put = put-few _ _ _ (failed other .put .ensures) in
+    let moved = move-few (fitted-ready (still-fit other .0)) _ _ (call .move-slot .ensures) in
+    (omega arith, omega arith, omega arith, omega arith)
+
+same-length-3 : tie.Need-same-length-3
+same-length-3 c = search needs
+
+same-length-4 : tie.Need-same-length-4
+same-length-4 c = search needs
+
+returns-2 : tie.Need-returns-2
+returns-2 c =
+    let call = c .before .before .before .before .before in
+    let other = call .before .before .before in
+    c .behind .ensures _
+    ∙ sym (slot-moved two _ _ _ _ (start (failed other) .pre .3) (failed other .put .ensures) (other .if1 .left) (call .move-slot .ensures))
+
+pub store-at-spec : {M : Type 1} → statement M
+store-at-spec =
+    tie.close
+    (tie.spec
+    put-requires
+    same-length
+    same-length-2
+    returns
+    move-slot-requires
+    behind-requires
+    same-length-3
+    same-length-4
+    returns-2)

@@ -1,0 +1,103 @@
+#!/bin/sh
+# tests/lyre.sh: holds ./lyre to its help, in which each command has an example that works; to one line and a status for what cannot
+# be done; and to calling rt where a program may be out of date, and only there.
+set -eu
+cd "$(dirname "$0")/.."
+work=$(mktemp -d)
+trap 'rm -rf "$work"' EXIT
+
+fail() {
+    echo "lyre: $*"
+    exit 1
+}
+
+# ends STATUS COMMAND..: what the command prints and says is left in $work
+ends() {
+    wanted=$1
+    shift
+    status=0
+    "$@" >"$work/printed" 2>"$work/said" || status=$?
+    [ "$status" -eq "$wanted" ] || { cat "$work/said"; fail "$*: status $status, not $wanted"; }
+}
+
+# refused STATUS WORDS ARGUMENT..: ./lyre prints nothing and says one line, which has the words
+refused() {
+    wanted=$1 words=$2
+    shift 2
+    ends "$wanted" ./lyre "$@"
+    [ ! -s "$work/printed" ] && [ "$(wc -l <"$work/said")" -eq 1 ] && grep -qF -- "$words" "$work/said" ||
+        { cat "$work/printed" "$work/said"; fail "./lyre $*: not one line that has: $words"; }
+}
+
+# same ARGUMENT..: ./look prints, says and ends as ./lyre look does
+same() {
+    status=0
+    ./look "$@" >"$work/look" 2>&1 <examples/setting-a.bin || status=$?
+    ends "$status" ./lyre look "$@" <examples/setting-a.bin
+    cat "$work/printed" "$work/said" | diff - "$work/look" || fail "./look $* (>) is not ./lyre look $* (<)"
+}
+
+ends 2 ./lyre
+[ ! -s "$work/printed" ] || fail './lyre alone prints something'
+mv "$work/said" "$work/help"
+ends 0 ./lyre help
+diff "$work/help" "$work/printed" || fail './lyre alone (<) does not say what ./lyre help prints (>)'
+sed -n '/^case/,/^esac/s/^\([a-z]*\)).*/\1/p' lyre >"$work/commands"
+[ -s "$work/commands" ] || fail 'no command was found'
+while read -r command; do
+    grep -Eq "^  $command( |\$)" "$work/help" || fail "help does not name $command"
+    example=$(grep -E "^ +\./lyre $command( |\$)" "$work/help") || fail "help has no example of $command"
+    ends 0 $example </dev/null
+done <"$work/commands"
+
+refused 2 "'nothing'" nothing
+refused 2 './lyre help' nothing
+refused 2 'usage: ./lyre help' help look
+refused 2 'usage: ./lyre look [FILE]' look one two
+refused 1 "$work/missing: " look "$work/missing"
+refused 1 "$work: " look "$work"
+same
+same examples/setting-a.bin
+same "$work/missing"
+same one two
+
+# When rt is called, in a house and with a kit that are made up: there rt leaves a program, and ends as the file `ends` says.
+kit=$work/kit
+house=$work/house
+emulator=$kit/on/$(uname -m)/toolchain/bin/qemu-x86_64
+mkdir -p "$kit/bin" "$(dirname "$emulator")" "$house/crates"
+printf '#!/bin/sh\nshift 3\nexec "$@"\n' >"$emulator"
+printf '#!/bin/sh\necho looked\n' >"$kit/look"
+cat >"$kit/bin/rt" <<END
+#!/bin/sh
+mkdir -p target/bin
+cp $kit/look target/bin
+echo 'rt: look proved (1 s)'
+exit \$(cat $kit/ends)
+END
+chmod +x "$emulator" "$kit/look" "$kit/bin/rt"
+echo 'a kit' >"$kit/KIT-ID"
+echo 'look:' >"$house/crates.txt"
+cp lyre "$house"
+
+# built STATUS CALLED WHEN: a look in that house, for which rt is called, yes or no
+built() {
+    ends "$1" env RATTLE_HOME="$kit" PATH="$kit/bin:$PATH" "$house/lyre" look </dev/null
+    called=no
+    ! grep -qx 'lyre: look proved (1 s)' "$work/said" || called=yes
+    [ "$called" = "$2" ] || fail "rt was called: $called, not $2, $3"
+    [ "$1" -ne 0 ] || [ "$(cat "$work/printed")" = looked ] || fail "the program did not run $3"
+}
+
+echo 1 >"$kit/ends"
+built 1 yes 'at first'
+built 1 yes 'after a proof that failed'
+echo 0 >"$kit/ends"
+built 0 yes 'after two proofs that failed'
+built 0 no 'after a good proof'
+echo 'another kit' >"$kit/KIT-ID"
+built 0 yes 'with another kit'
+built 0 no 'with that kit again'
+touch -d '1 hour' "$house/crates"
+built 0 yes 'after a change'
+echo 'lyre: does what its help says'
