@@ -27,7 +27,7 @@ heads crates/counter/src/doors.rt crates/lyre/src/lib.rt | grep requires && { ec
 public | awk '{ print $2 }' | while read -r name; do
     theorem=$(echo "$name" | tr _ -)-one
     # NoSecond.antt calls the module of `open` opens
-    grep -Eq "^ *pub $theorem : Sole 𝓤 ${name}s?\.ended " crates/promises/proofs/NoSecond.antt || echo "$name"
+    grep -Eq "^ *pub $theorem : Sole 𝓤 ${name}s?\.ended " crates/sole/proofs/NoSecond.antt || echo "$name"
 done | grep . && { echo 'promised: of these it is not proved that they leave one answer'; exit 1; }
 grep -l 'specs\.Inside' crates/*/specs/*.antt && { echo 'promised: these rest on the inside'; exit 1; }
 # chips.rt makes the chips of the cases, lives and all.

@@ -25,7 +25,7 @@ use Rattle.cells.proofs.Puts.{Refuses, put-there, put-within, put-cost,
 -- ## What is claimed
 
 -- a row stops at x: the cell there refuses its byte
-pub record Stopped (bs : List ℕ) (a : ℕ) (s : Chip) (x : ℕ) : Type 0 where
+pub record RowStopped (bs : List ℕ) (a : ℕ) (s : Chip) (x : ℕ) : Type 0 where
   pub index : ℕ
   pub inside : index < length bs
   pub here : x ≡ a + index
@@ -36,7 +36,7 @@ pub record RowLaws (bs : List ℕ) (a : ℕ) (s : Chip) : Type 0 where
   pub within : Within (InRow (length bs) Up a) s (putRow bs a s)
   pub kept : Kept (InRow (length bs) Up a) s (putRow bs a s .after)
   pub held : putRow bs a s .answer ≡ Nowhere → (j : ℕ) → j < length bs → cellAt (putRow bs a s .after) (a + j) ≡ getD bs j 0
-  pub failed : (x : ℕ) → putRow bs a s .answer ≡ At x → Stopped bs a s x
+  pub failed : (x : ℕ) → putRow bs a s .answer ≡ At x → RowStopped bs a s x
   pub there : ((j : ℕ) → j < length bs → cellAt s (a + j) ≡ getD bs j 0) → putRow bs a s ≡ still Nowhere s
   pub alive : ((j : ℕ) → j < length bs → 1 ≤ lifeAt s (a + j)) → putRow bs a s .answer ≡ Nowhere
   pub cost : length (putRow bs a s .log) ≤ length bs
@@ -131,16 +131,16 @@ still-refuses a b x c s n r =
     record { worn = sym (k .life x n) ∙ r .worn; other = λ e. r .other (k .cell x n ∙ e) }
 
 -- a row fails where a cell refuses its byte
-pub row-failed : (bs : List ℕ) (a : ℕ) (s : Chip) → Paired s → (x : ℕ) → putRow bs a s .answer ≡ At x → Stopped bs a s x
+pub row-failed : (bs : List ℕ) (a : ℕ) (s : Chip) → Paired s → (x : ℕ) → putRow bs a s .answer ≡ At x → RowStopped bs a s x
 unfolding putRow
 row-failed [] a s p x = λ e. absurd (nowhere≢at x e)
 row-failed (b ∷ bs) a s p x =
     row-either b bs a s
-    (λ r. r .answer ≡ At x → Stopped (b ∷ bs) a s x)
+    (λ r. r .answer ≡ At x → RowStopped (b ∷ bs) a s x)
     (λ h e. go (row-failed bs (a + 1) (putAt a b s .after) (kept-paired (within-kept (put-within a b s)) p) x e))
     (λ h e. let same : a ≡ x = cc in record { index = 0; inside = omega arith; here = omega arith; refused = rw same at (put-laws a b s p .failed h) })
   where
-    go : Stopped bs (a + 1) (putAt a b s .after) x → Stopped (b ∷ bs) a s x
+    go : RowStopped bs (a + 1) (putAt a b s .after) x → RowStopped (b ∷ bs) a s x
     go t = record {
       index = suc (t .index);
       inside = omega arith;

@@ -2,7 +2,7 @@
 --   stopped-not               a piece that was not stopped is done
 --   said-stopped, said-done, behind-done  a piece that was stopped ends the work, and behind one that was not comes the next
 use mathlib.Core.Path.{_≡_, refl, sym, ap, _∙_}
-use mathlib.Core.Bool.{true, false}
+use mathlib.Core.Bool.{true, false, false≢true, true≢false}
 use Rattle.cells.specs.Chip.{Chip}
 use Rattle.cells.specs.Run.{Run, Seen, view, plus}
 use Rattle.cells.proofs.Views.{said-then, said-answer}
@@ -10,12 +10,11 @@ use Rattle.counter.specs.declared.verdict.Work.{Work}
 use Rattle.counter.specs.declared.verdict.Work.the-variants.{Done, Stopped}
 use Rattle.counter.specs.Verdict.{_andThen_}
 use Rattle.counter.specs.Inside.{stopped}
-use Rattle.counter.proofs.RangeTests.{no-claim}
 use Rattle.counter.proofs.Stores.{done-then, stopped-then}
 
 pub stopped-not : (w : Work) → stopped w ≡ false → w ≡ Done
 stopped-not Done h = refl
-stopped-not (Stopped why) h = no-claim (sym h)
+stopped-not (Stopped why) h = absurd (true≢false h)
 
 module _ (r : Run Work) (work : Chip → Run Work) {v : Seen Work} (e : v ≡ view r) where
   pub said-done : stopped (v .answer) ≡ false → view (r andThen work) ≡ plus (v .writes) (v .tried) (view (work (v .after)))
@@ -28,5 +27,5 @@ module _ (r : Run Work) (work : Chip → Run Work) {v : Seen Work} (e : v ≡ vi
   said-stopped h = go (v .answer) refl h
     where
       go : (w : Work) → v .answer ≡ w → stopped w ≡ true → view (r andThen work) ≡ v
-      go Done same h = no-claim h
+      go Done same h = absurd (false≢true h)
       go (Stopped why) same h = ap view (stopped-then r work why (said-answer r e same)) ∙ sym e

@@ -3,18 +3,18 @@
 --   outcome-refused           of a refusal that touched nothing
 --   chip-verdict              a chip lent with its lives reads as its cells do
 --   chip-fitted               and is fit to be opened, if they are unmarked
---   reopening-good, reopening-refused  a marked chip opened again
---   unopened-ready, ready-unopened  a chip not yet opened is ready; a ready one without a mark is not yet opened
+--   settling, settling-good, settling-refused  what was read stored anew
+--   unopened, unopened-ready, ready-unopened  a chip not yet opened is ready; a ready one without a mark is not yet opened
 --   open-first, open-again    the work of open, by whether the chip was opened before
 --   open-unpaired, open-unfit, open-unmarked, open-marked  the work of open
 --   step-unpaired, step-refused, step-last, step-on  the work of step, by what the chip reads as
 --   good-settled              a good verdict finds the chip fitted, and its map sound
 use Prim.Native.Nat.{ℕ}
-use mathlib.Core.Path.{_≡_, sym, ap, _∙_}
-use mathlib.Core.Bool.{true, false, not}
+use mathlib.Core.Path.{_≡_, refl, sym, ap, _∙_}
+use mathlib.Core.Bool.{Bool, true, false, not, cond, _&&_, true≢false}
 use lib.IntN.{ℤ}
 use lib.ListN.{length}
-use borrow.Author.Tests.{eq-eqb, ne-eqb}
+use borrow.Author.Tests.{eq-eqb, ne-eqb, not-true}
 use Rattle.cells.specs.Chip.{Chip}
 use Rattle.cells.specs.Run.{Run, Seen, view, still}
 use Rattle.counter.specs.declared.places.Places.{Places}
@@ -22,13 +22,13 @@ use Rattle.counter.specs.declared.verdict.Work.{Work}
 use Rattle.counter.specs.declared.verdict.Verdict.{Verdict}
 use Rattle.counter.specs.declared.verdict.Verdict.the-variants.{Good, Refused}
 use Rattle.counter.specs.declared.verdict.Refusal.{Refusal}
-use Rattle.counter.specs.declared.verdict.Refusal.the-variants.{BadLength, LastCount}
+use Rattle.counter.specs.declared.verdict.Refusal.the-variants.{BadLength, BadPlaces, NoMark, LastCount}
 use Rattle.counter.specs.declared.standing.Standing.the-variants.{Unfit, Unmarked, Marked}
 use Rattle.counter.specs.Layout.{Layout}
-use Rattle.counter.specs.Places.{livesGood, fitted}
+use Rattle.counter.specs.Places.{lengthGood, placesGood, livesGood, fitted}
 use Rattle.counter.specs.Map.{mapIn, marked, pointerOf, sound}
-use Rattle.counter.specs.Verdict.{outcome, outcomeOf, refusalOf, answerOf, ending, _endingIn_}
-use Rattle.counter.specs.Reading.{examine, verdictOf}
+use Rattle.counter.specs.Verdict.{outcome, outcomeOf, refusalOf, answerOf, ending, onGood, provided, _endingIn_}
+use Rattle.counter.specs.Reading.{unless, examine, verdictOf}
 use Rattle.counter.specs.Store.{store}
 use Rattle.counter.proofs.SoundPointers.{sound-test}
 use Rattle.counter.proofs.Standings.{stands-unfit, stands-unmarked, stands-marked, guard-unfit, guard-marked}
@@ -36,7 +36,7 @@ use Rattle.counter.proofs.RangeTests.{and-true, true-and}
 use Rattle.counter.proofs.Ready.{Ready}
 use Rattle.counter.proofs.Fitted.{fitted-ready, ready-fitted}
 use Rattle.counter.proofs.GoodVerdicts.{verdict-good}
-use Rattle.counter.specs.Doors.{lastCount, chipVerdict, unopened, reopening, beginning, openRun, stepping, stepRun}
+use Rattle.counter.specs.Doors.{lastCount, chipVerdict, reopening, beginning, openRun, stepping, stepRun}
 use Rattle.counter.specs.Inside.{standingOf}
 
 -- of storing that ends a call
@@ -49,6 +49,25 @@ pub outcome-refused : {r : Run Verdict} {s : Chip} {why : Refusal} → r ≡ sti
 unfolding answerOf
 outcome-refused e = ap outcomeOf (sym e)
 
+-- refusals 1 and 2 do not hold, and the mark is not there
+unfoldable pub unopened : Layout → Places → Chip → Bool
+unopened layout p s = fitted layout p s && not (marked (mapIn layout p (s .cells)))
+
+-- what was read stored anew
+abbrev pub settling : Layout → Places → Verdict → Chip → Run Verdict
+settling layout p v s = onGood v (λ c lag. store layout p c s endingIn Good c lag) s
+
+-- opening again is settling what the chip reads as, since the tests before the mark are the same
+same-tests :
+    (a b c m : Bool) (v : Verdict) (work : ℕ → ℤ → Run Verdict) (first : Run Verdict) (s : Chip) → (a && b && c) && not m ≡ false
+    → provided a BadLength s (provided b BadLength s (provided c BadPlaces s (cond m (onGood v work s) first)))
+    ≡ onGood (unless a BadLength (unless b BadLength (unless c BadPlaces (unless m NoMark v)))) work s
+same-tests true true true true v work first s e = refl
+same-tests true true true false v work first s e = absurd (true≢false e)
+same-tests true true false m v work first s e = refl
+same-tests true false c m v work first s e = refl
+same-tests false b c m v work first s e = refl
+
 module _ (layout : Layout) (p : Places) (s : Chip) where
   -- a chip is opened for the first time where it is fit and has no mark
   pub unopened-ready : unopened layout p s ≡ true → Ready layout p s
@@ -60,12 +79,21 @@ module _ (layout : Layout) (p : Places) (s : Chip) where
   ready-unopened ready e = true-and _ _ (ready-fitted ready) (ap not e)
 
   pub open-first : unopened layout p s ≡ true → openRun layout p s ≡ beginning layout p s
-  unfolding openRun
-  open-first e = rw e
+  unfolding openRun unopened livesGood
+  open-first e =
+      let ready = unopened-ready e in
+      rw (eq-eqb _ _ (ready .paired), ready .long, ready .good, not-true (marked (mapIn layout p (s .cells))) (and-true (fitted layout p s) _ e .1))
 
-  pub open-again : unopened layout p s ≡ false → openRun layout p s ≡ reopening layout p s
-  unfolding openRun
-  open-again e = rw e
+  pub open-again : unopened layout p s ≡ false → openRun layout p s ≡ settling layout p (chipVerdict layout p s) s
+  unfolding openRun unopened fitted chipVerdict verdictOf
+  open-again e =
+      same-tests (livesGood s) (lengthGood layout (length (s .cells))) (placesGood layout (length (s .cells)) p) (marked (mapIn layout p (s .cells))) _ _ _ s e
+
+  pub settling-refused : (v : Verdict) (why : Refusal) → v ≡ Refused why → settling layout p v s ≡ still (Refused why) s
+  settling-refused v why e = rw e
+
+  pub settling-good : (v : Verdict) (c : ℕ) (lag : ℤ) → v ≡ Good c lag → settling layout p v s ≡ store layout p c s endingIn Good c lag
+  settling-good v c lag e = rw e
 
   module _ (paired : length (s .lives) ≡ length (s .cells)) where
     lives : livesGood s ≡ true
@@ -91,12 +119,14 @@ module _ (layout : Layout) (p : Places) (s : Chip) where
     open-unmarked e = open-first (ready-unopened (fitted-ready (chip-fitted e)) (stands-unmarked layout p (s .cells) e .2))
 
     pub open-marked : standingOf layout p (s .cells) ≡ Marked → openRun layout p s ≡ reopening layout p s
-    unfolding openRun unopened fitted
+    unfolding openRun
     open-marked e = let facts = stands-marked layout p (s .cells) e in rw (lives, facts .0, facts .1, facts .2)
 
     pub open-unfit : {why : Refusal} → standingOf layout p (s .cells) ≡ Unfit why → openRun layout p s ≡ still (Refused why) s
-    unfolding openRun unopened fitted verdictOf
-    open-unfit e = rw (lives, stands-unfit layout p (s .cells) e, chip-verdict ∙ guard-unfit layout p (s .cells) _ e)
+    unfolding unopened fitted verdictOf
+    open-unfit e =
+        open-again (rw (lives, stands-unfit layout p (s .cells) e))
+        ∙ settling-refused _ _ (chip-verdict ∙ guard-unfit layout p (s .cells) _ e)
 
   module _ (unpaired : length (s .lives) ≡ length (s .cells) → ⊥) where
     lifeless : livesGood s ≡ false
@@ -108,17 +138,14 @@ module _ (layout : Layout) (p : Places) (s : Chip) where
     chip-unpaired = rw lifeless
 
     pub open-unpaired : openRun layout p s ≡ still (Refused BadLength) s
-    unfolding openRun unopened fitted
-    open-unpaired = rw (lifeless, chip-unpaired)
+    unfolding openRun
+    open-unpaired = rw lifeless
 
     pub step-unpaired : stepRun layout p s ≡ still (Refused BadLength) s
     unfolding stepRun
     step-unpaired = rw chip-unpaired
 
   module _ (why : Refusal) (e : chipVerdict layout p s ≡ Refused why) where
-    pub reopening-refused : reopening layout p s ≡ still (Refused why) s
-    reopening-refused = rw e
-
     pub step-refused : stepRun layout p s ≡ still (Refused why) s
     unfolding stepRun
     step-refused = rw e
@@ -127,9 +154,6 @@ module _ (layout : Layout) (p : Places) (s : Chip) where
   good-settled e = let good = verdict-good layout p s e .1 in (ready-fitted (good .ready), sound-test layout p _ (good .sound))
 
   module _ (c : ℕ) (lag : ℤ) (e : chipVerdict layout p s ≡ Good c lag) where
-    pub reopening-good : reopening layout p s ≡ store layout p c s endingIn Good c lag
-    reopening-good = rw e
-
     pub step-last : c ≡ lastCount → stepRun layout p s ≡ still (Refused LastCount) s
     unfolding stepRun
     step-last h = rw (e, eq-eqb _ _ h)

@@ -27,7 +27,7 @@ use Rattle.counter.specs.Layout.{Layout, slots}
 use Rattle.counter.specs.Slots.{lowest}
 use Rattle.counter.specs.Places.{lengthGood, placesGood, livesGood}
 use Rattle.counter.specs.Map.{mapIn, marked, sound}
-use Rattle.counter.specs.Reading.{nibbleIn, countIn, close, decide, twofoldAt, lostAt, unless, onFound, weigh, examine, verdictOf}
+use Rattle.counter.specs.Reading.{nibbleIn, countIn, close, decide, someTwofold, lostAt, unless, onFound, weigh, examine, verdictOf}
 use Rattle.counter.specs.Doors.{chipVerdict}
 use Rattle.counter.proofs.SoundPointers.{Sound, test-sound}
 use Rattle.counter.proofs.Ready.{pointers, dataOf, Ready}
@@ -62,7 +62,7 @@ weigh-good : {c : ℕ} {lag : ℤ} (layout : Layout) (byte : ℕ → ℕ) → we
 unfolding weigh
 weigh-good layout byte e =
     let reading : ℕ → Reading = λ k. readingOf (byte k) in
-    let h = found-good (lowest 8 0 (twofoldAt layout byte)) TwoCodes _ e in
+    let h = found-good (lowest 8 0 (someTwofold layout byte)) TwoCodes _ e in
     let h′ = found-good (lowest 8 0 (lostAt layout reading)) LostNibble _ h in
     let q = decide-good (countIn layout reading 0) (countIn layout reading (layout .copies - 1)) h′ in
     rw q at (count-small-read layout reading 0)
@@ -119,7 +119,7 @@ module _ {k : ℕ} where
   unfolding weigh
   weigh-room layout byte e =
       let reading : ℕ → Reading = λ k. readingOf (byte k) in
-      let h = found-room (lowest 8 0 (twofoldAt layout byte)) TwoCodes _ (λ n q. true≢false cc) e in
+      let h = found-room (lowest 8 0 (someTwofold layout byte)) TwoCodes _ (λ n q. true≢false cc) e in
       let h′ = found-room (lowest 8 0 (lostAt layout reading)) LostNibble _ (λ n q. true≢false cc) h in
       decide-room (countIn layout reading 0) (countIn layout reading (layout .copies - 1)) h′
 

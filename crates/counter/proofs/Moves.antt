@@ -2,7 +2,7 @@
 --   gapAt, roomOf             the gap and the room that a chip's map leaves
 --   Ended                     how storing can end
 --   Settles                   what such work comes to where it is done
---   Moves                     the laws, given what the work may cost beside the spares it tries
+--   SlotLaws                     the laws, given what the work may cost beside the spares it tries
 --   move-laws, slot-laws      they hold of a move, and of a store of one slot
 --   tries, first              the spares tried, and the put at the slot's cell
 --   move-missing, move-landing  a move, by what the spares come to
@@ -68,7 +68,7 @@ pub record Settles (layout : Layout) (p : Places) (k b cost : ℕ) (s : Chip) (r
   pub kept : (j : ℕ) → j < slots layout → (j ≡ k → ⊥) → dataOf layout p (r .after) j ≡ dataOf layout p s j
   pub paid : askedIn (p .start) (p .end) (r .log) + roomOf layout p (r .after) ≤ cost + roomOf layout p s
 
-pub record Moves (layout : Layout) (p : Places) (k b cost : ℕ) (s : Chip) (r : Run Work) : Type 0 where
+pub record SlotLaws (layout : Layout) (p : Places) (k b cost : ℕ) (s : Chip) (r : Run Work) : Type 0 where
   pub within : Within (Own layout p) s r
   pub mark : marked (mapIn layout p (r .after .cells)) ≡ marked (mapIn layout p (s .cells))
   pub others : (j : ℕ) → j < slots layout → (j ≡ k → ⊥) → pointers layout p (r .after) j ≡ pointers layout p s j
@@ -103,7 +103,7 @@ module _ {layout : Layout} {p : Places} {s : Chip} (ready : Ready layout p s) (s
 
   missing-laws :
       Missing k (gapAt layout p s) b s
-      → Moves layout p k b 0 s (tries layout p k b s then still (Stopped (NoSpare k)) (tries layout p k b s .after))
+      → SlotLaws layout p k b 0 s (tries layout p k b s then still (Stopped (NoSpare k)) (tries layout p k b s .after))
   missing-laws m =
       record {
         within = within-then (within-wider (λ c i. inr i) tries-within) (within-still _ _);
@@ -157,7 +157,7 @@ module _ {layout : Layout} {p : Places} {s : Chip} (ready : Ready layout p s) (s
           paid = let h = m .cost in let h₁ = landing-asked in let h₂ = narrowed e in omega arith;
         }
 
-    landing-laws : Moves layout p k b 0 s (tries layout p k b s then puts)
+    landing-laws : SlotLaws layout p k b 0 s (tries layout p k b s then puts)
     landing-laws =
         record {
           within = within-then (within-wider (λ c i. inr i) tries-within) (within-wider (λ c o. inl (of-map ready k l o)) (pointing .within));
@@ -172,10 +172,10 @@ module _ {layout : Layout} {p : Places} {s : Chip} (ready : Ready layout p s) (s
         ends (inl e) = done e
         ends (inr (x, e)) = unmapped x e
 
-  pub move-laws : Moves layout p k b 0 s (moveSlot layout p k b s)
+  pub move-laws : SlotLaws layout p k b 0 s (moveSlot layout p k b s)
   move-laws = go (try-laws k (gapAt layout p s) b s (ready .paired) .trying)
     where
-      go : Trying k (gapAt layout p s) b s → Moves layout p k b 0 s (moveSlot layout p k b s)
+      go : Trying k (gapAt layout p s) b s → SlotLaws layout p k b 0 s (moveSlot layout p k b s)
       go (missing m) = rw (move-missing layout p k b s (m .nowhere)) (missing-laws m)
       go (landing m) = rw (move-landing layout p k b s (m .place) (m .here)) (landing-laws m)
 
@@ -244,7 +244,7 @@ module _ {layout : Layout} {p : Places} {s : Chip} (ready : Ready layout p s) (s
         paid = let h = put-asked in rw put-map (omega arith);
       }
 
-  held-laws : first layout p k b s .answer ≡ true → Moves layout p k b (change (dataOf layout p s k) b) s (first layout p k b s giving Done)
+  held-laws : first layout p k b s .answer ≡ true → SlotLaws layout p k b (change (dataOf layout p s k) b) s (first layout p k b s giving Done)
   held-laws e =
       record {
         within = within-giving Done (within-wider (λ c i. inr i) put-inside);
@@ -261,7 +261,7 @@ module _ {layout : Layout} {p : Places} {s : Chip} (ready : Ready layout p s) (s
 
   moved-laws :
       first layout p k b s .answer ≡ false
-      → Moves layout p k b 1 s (run false (write (pointers layout p s k) b ∷ []) 0 s then moveSlot layout p k b s)
+      → SlotLaws layout p k b 1 s (run false (write (pointers layout p s k) b ∷ []) 0 s then moveSlot layout p k b s)
   moved-laws e =
       let m = move-laws ready sound k l b in
       let asked = asked-first (moveSlot layout p k b s .log) in
@@ -274,9 +274,9 @@ module _ {layout : Layout} {p : Places} {s : Chip} (ready : Ready layout p s) (s
         ended = m .ended;
       }
 
-  pub slot-laws : Moves layout p k b (change (dataOf layout p s k) b) s (storeSlot layout p k b s)
+  pub slot-laws : SlotLaws layout p k b (change (dataOf layout p s k) b) s (storeSlot layout p k b s)
   slot-laws = go (first layout p k b s .answer) refl
     where
-      go : (t : Bool) → first layout p k b s .answer ≡ t → Moves layout p k b (change (dataOf layout p s k) b) s (storeSlot layout p k b s)
+      go : (t : Bool) → first layout p k b s .answer ≡ t → SlotLaws layout p k b (change (dataOf layout p s k) b) s (storeSlot layout p k b s)
       go true e = rw (slot-held layout p k b s e) (held-laws e)
       go false e = rw (slot-refused layout p k b s (ready .paired) e, ne-eqb (dataOf layout p s k) b (put .failed e .other)) (moved-laws e)

@@ -31,7 +31,7 @@ use Rattle.counter.specs.Store.{slotCode, storeSlot, storeFrom, store}
 use Rattle.counter.specs.Inside.{Holds}
 use Rattle.counter.proofs.SoundPointers.{Sound, test-sound}
 use Rattle.counter.proofs.Ready.{pointers, dataOf, Ready, ready-kept}
-use Rattle.counter.proofs.Moves.{change, Moves, slot-there, slot-laws}
+use Rattle.counter.proofs.Moves.{change, SlotLaws, slot-there, slot-laws}
 use Rattle.counter.proofs.Fitted.{fitted-ready}
 use Rattle.counter.proofs.Stores.{done-then, stopped-then}
 
@@ -149,7 +149,7 @@ module _ (p : Places) (c : ℕ) (s : Chip) (small : c + 1 < 2 ^ 32) (ready : Rea
       ∙ ap (λ (k : ℕ). storeFrom (suc (15 - nibble)) k two p (c + 1) s) (zero-add nibble)
       ∙ then-same (next nibble s) (storeFrom (15 - nibble) (nibble + 1) two p (c + 1)) (next (8 + nibble)) (λ d. rest d)
     where
-      slot : Moves two p nibble (slotCode (c + 1) nibble) (change (dataOf two p s nibble) (slotCode (c + 1) nibble)) s (next nibble s)
+      slot : SlotLaws two p nibble (slotCode (c + 1) nibble) (change (dataOf two p s nibble) (slotCode (c + 1) nibble)) s (next nibble s)
       slot = let h = low in slot-laws ready sound nibble (omega arith) (slotCode (c + 1) nibble)
 
       rest : next nibble s .answer ≡ Done → storeFrom (15 - nibble) (nibble + 1) two p (c + 1) (next nibble s .after) ≡ next (8 + nibble) (next nibble s .after)

@@ -8,7 +8,7 @@
 --   take-few                  it asks at most one write for each cell of the gap
 --   mark-said, mark-few       the mark
 --   pointers-said, pointers-few, map-few  the pointers, as one row of bytes, and what they and the map ask
---   opening-roomless, opening-mapped  the whole, by where it ended
+--   opening-stopped, opening-mapped  the whole, by where it ended
 --   taken-whole, taken-reach, taking-few  the addresses taken are sixteen pointers, taken at few writes
 use Prim.Native.Nat.{ℕ, zero, suc, _+_, _-_, _*_, _≤_, _<_}
 use mathlib.Core.Path.{_≡_, refl, sym, ap, _∙_}
@@ -307,9 +307,9 @@ module _ (p : Places) (s : Chip) {v : Seen Taken} (e : v ≡ view (untried (take
   abbrev saidTaking : Seen Work
   saidTaking = seen (v .answer .work) (v .writes) (v .tried) (v .after)
 
-  pub opening-roomless : stopped (v .answer .work) ≡ true → view (firstOpening two p s) ≡ saidTaking
+  pub opening-stopped : stopped (v .answer .work) ≡ true → view (firstOpening two p s) ≡ saidTaking
   unfolding firstOpening
-  opening-roomless h = said-stopped (taking giving taking .answer .work) (λ t. putPointers (taking .answer .addresses) 0 p t andThen putMark p) {v = saidTaking} (rw e) h
+  opening-stopped h = said-stopped (taking giving taking .answer .work) (λ t. putPointers (taking .answer .addresses) 0 p t andThen putMark p) {v = saidTaking} (rw e) h
 
   pub opening-mapped :
       stopped (v .answer .work) ≡ false → {addresses : List ℕ} → v .answer .addresses ≡ addresses

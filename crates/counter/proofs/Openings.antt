@@ -1,9 +1,9 @@
 -- A first opening: what it keeps, what it changes.
---   Points, points-laws       addresses put as pointers, one slot after another
+--   PointsLaws, points-laws       addresses put as pointers, one slot after another
 --   MarkLaws, mark-laws       the mark put
---   Maps, maps-laws           both, one behind the other
+--   MapLaws, maps-laws           both, one behind the other
 --   Opened                    what a first opening comes to where it is done
---   Opens, opening-laws       the laws of a first opening
+--   OpeningLaws, opening-laws       the laws of a first opening
 --   whole-inside              the whole area is the area
 --   zero-code                 the code of 0 is what every slot holds at count 0
 use Prim.Native.Nat.{ℕ, _%_, zero, suc, _+_, _≤_, _<_}
@@ -43,7 +43,7 @@ use Rattle.counter.proofs.Ready.{pointers, dataOf, Ready, InMap, Own, r
 use Rattle.counter.proofs.Pointers.{of-map, PointerLaws, pointer-laws, mapped-done, mapped-either}
 use Rattle.counter.proofs.Moves.{not-done, Ended, Ended.done, Ended.roomless, Ended.unmapped}
 use Rattle.counter.proofs.Stores.{done-then, stopped-then}
-use Rattle.counter.proofs.Takes.{InGap, AllTaken, Takes, take-laws}
+use Rattle.counter.proofs.Takes.{InGap, AllTaken, TakeLaws, take-laws}
 use Rattle.counter.proofs.WorkSteps.{opening-on, opening-ends}
 
 -- ## Pointers, one slot after another
@@ -53,7 +53,7 @@ pub data MapEnded (w : Work) : Type 0 where
   put : w ≡ Done → MapEnded w
   failed : (a : ℕ) → w ≡ Stopped (MapByte a) → MapEnded w
 
-pub record Points (layout : Layout) (p : Places) (addresses : List ℕ) (k : ℕ) (s : Chip) (r : Run Work) : Type 0 where
+pub record PointsLaws (layout : Layout) (p : Places) (addresses : List ℕ) (k : ℕ) (s : Chip) (r : Run Work) : Type 0 where
   pub within : Within (InMap layout p) s r
   pub tried : r .tried ≡ 0
   pub earlier : (j : ℕ) → j < k → pointers layout p (r .after) j ≡ pointers layout p s j
@@ -67,8 +67,8 @@ module _ (layout : Layout) (p : Places) where
       → Ready layout p s
       → k + suc (length rest) ≤ slots layout
       → putPointer p k a s .answer ≡ Done
-      → Points layout p rest (k + 1) (putPointer p k a s .after) q
-      → Points layout p (a ∷ rest) k s (putPointer p k a s then q)
+      → PointsLaws layout p rest (k + 1) (putPointer p k a s .after) q
+      → PointsLaws layout p (a ∷ rest) k s (putPointer p k a s then q)
   points-then a rest k s q ready fits e points =
       record {
         within = within-then (within-wider (λ c o. of-map ready k (omega arith) o) (laws .within)) (points .within);
@@ -91,7 +91,7 @@ module _ (layout : Layout) (p : Places) where
       → Ready layout p s
       → k + suc (length rest) ≤ slots layout
       → putPointer p k a s .answer ≡ Stopped (MapByte x)
-      → Points layout p (a ∷ rest) k s (putPointer p k a s)
+      → PointsLaws layout p (a ∷ rest) k s (putPointer p k a s)
   points-stop a rest k s x ready fits e =
       let laws = pointer-laws ready k (omega arith) a in
       record {
@@ -104,7 +104,7 @@ module _ (layout : Layout) (p : Places) where
 
   pub points-laws :
       (addresses : List ℕ) (k : ℕ) (s : Chip) → Ready layout p s → k + length addresses ≤ slots layout
-      → Points layout p addresses k s (putPointers addresses k p s)
+      → PointsLaws layout p addresses k s (putPointers addresses k p s)
   unfolding putPointers
   points-laws [] k s ready fits = record { within = within-still Done s; tried = refl; earlier = λ j l. refl; pointed = λ d j l. absurd (omega arith); ended = put refl }
   points-laws (a ∷ rest) k s ready fits = go (laws .either) (points-laws rest (k + 1) (putPointer p k a s .after) (ready-kept ready (within-kept (laws .within))) (omega arith))
@@ -114,8 +114,8 @@ module _ (layout : Layout) (p : Places) where
 
       go :
           (putPointer p k a s .answer ≡ Done) ⊎ ((x : ℕ) × (putPointer p k a s .answer ≡ Stopped (MapByte x)))
-          → Points layout p rest (k + 1) (putPointer p k a s .after) (putPointers rest (k + 1) p (putPointer p k a s .after))
-          → Points layout p (a ∷ rest) k s (putPointer p k a s andThen putPointers rest (k + 1) p)
+          → PointsLaws layout p rest (k + 1) (putPointer p k a s .after) (putPointers rest (k + 1) p (putPointer p k a s .after))
+          → PointsLaws layout p (a ∷ rest) k s (putPointer p k a s andThen putPointers rest (k + 1) p)
       go (inl e) points = rw (done-then (putPointer p k a s) _ e) (points-then a rest k s _ ready fits e points)
       go (inr (x, e)) points = rw (stopped-then (putPointer p k a s) _ _ e) (points-stop a rest k s x ready fits e)
 
@@ -162,7 +162,7 @@ module _ {layout : Layout} {p : Places} {s : Chip} (ready : Ready layout p s) wh
 
 -- ## The whole map: all pointers, then the mark
 
-pub record Maps (layout : Layout) (p : Places) (addresses : List ℕ) (s : Chip) (r : Run Work) : Type 0 where
+pub record MapLaws (layout : Layout) (p : Places) (addresses : List ℕ) (s : Chip) (r : Run Work) : Type 0 where
   pub within : Within (InMap layout p) s r
   pub tried : r .tried ≡ 0
   pub pointed : r .answer ≡ Done → (j : ℕ) → j < slots layout → pointers layout p (r .after) j ≡ getD addresses j 0
@@ -173,10 +173,10 @@ module _ {layout : Layout} {p : Places} {s : Chip} (ready : Ready layout p s) (a
   abbrev pointing : Run Work
   pointing = putPointers addresses 0 p s
 
-  points : Points layout p addresses 0 s pointing
+  points : PointsLaws layout p addresses 0 s pointing
   points = points-laws layout p addresses 0 s ready (omega arith)
 
-  maps-done : pointing .answer ≡ Done → Maps layout p addresses s (pointing then putMark p (pointing .after))
+  maps-done : pointing .answer ≡ Done → MapLaws layout p addresses s (pointing then putMark p (pointing .after))
   maps-done e =
       record {
         within = within-then (points .within) (laws .within);
@@ -189,7 +189,7 @@ module _ {layout : Layout} {p : Places} {s : Chip} (ready : Ready layout p s) (a
       laws : MarkLaws layout p (pointing .after)
       laws = mark-laws (ready-kept ready (within-kept (points .within)))
 
-  maps-stop : (x : ℕ) → pointing .answer ≡ Stopped (MapByte x) → Maps layout p addresses s pointing
+  maps-stop : (x : ℕ) → pointing .answer ≡ Stopped (MapByte x) → MapLaws layout p addresses s pointing
   maps-stop x e =
       record {
         within = points .within;
@@ -199,10 +199,10 @@ module _ {layout : Layout} {p : Places} {s : Chip} (ready : Ready layout p s) (a
         ended = points .ended;
       }
 
-  pub maps-laws : Maps layout p addresses s (putPointers addresses 0 p s andThen putMark p)
+  pub maps-laws : MapLaws layout p addresses s (putPointers addresses 0 p s andThen putMark p)
   maps-laws = go (points .ended)
     where
-      go : MapEnded (pointing .answer) → Maps layout p addresses s (pointing andThen putMark p)
+      go : MapEnded (pointing .answer) → MapLaws layout p addresses s (pointing andThen putMark p)
       go (put e) = rw (done-then pointing (putMark p) e) (maps-done e)
       go (failed x e) = rw (stopped-then pointing (putMark p) _ e) (maps-stop x e)
 
@@ -214,7 +214,7 @@ pub record Opened (layout : Layout) (p : Places) (s : Chip) : Type 0 where
   pub marks : marked (mapIn layout p (s .cells)) ≡ true
   pub held : (j : ℕ) → j < slots layout → dataOf layout p s j ≡ codeOf 0
 
-pub record Opens (layout : Layout) (p : Places) (s : Chip) (r : Run Work) : Type 0 where
+pub record OpeningLaws (layout : Layout) (p : Places) (s : Chip) (r : Run Work) : Type 0 where
   pub within : Within (Own layout p) s r
   pub tried : r .tried ≡ 0
   pub opened : r .answer ≡ Done → Opened layout p (r .after)
@@ -228,7 +228,7 @@ module _ {layout : Layout} {p : Places} {s : Chip} (ready : Ready layout p s) wh
   abbrev taking : Run Taken
   taking = untried (takeFrom (slots layout) 0 (wholeArea p) s)
 
-  takes : Takes (slots layout) 0 (wholeArea p) s (takeFrom (slots layout) 0 (wholeArea p) s)
+  takes : TakeLaws (slots layout) 0 (wholeArea p) s (takeFrom (slots layout) 0 (wholeArea p) s)
   takes = take-laws (slots layout) 0 (wholeArea p) s (ready .paired)
 
   taking-within : Within (Own layout p) s (taking giving taking .answer .work)
@@ -238,7 +238,7 @@ module _ {layout : Layout} {p : Places} {s : Chip} (ready : Ready layout p s) wh
   mapping t = putPointers (taking .answer .addresses) 0 p t andThen putMark p
 
   module _ (t : AllTaken (slots layout) 0 (wholeArea p) (takeFrom (slots layout) 0 (wholeArea p) s)) where
-    maps : Maps layout p (taking .answer .addresses) (taking .after) (mapping (taking .after))
+    maps : MapLaws layout p (taking .answer .addresses) (taking .after) (mapping (taking .after))
     maps = maps-laws (ready-kept ready (within-kept taking-within)) (taking .answer .addresses) (t .many)
 
     -- the cells of the area stay while the map is put
@@ -253,7 +253,7 @@ module _ {layout : Layout} {p : Places} {s : Chip} (ready : Ready layout p s) wh
           held = λ j l. ap (cellAt (mapping (taking .after) .after)) (maps .pointed e j l) ∙ area-kept _ (whole-inside p _ (t .inside j l)) ∙ t .held j l;
         }
 
-    opening-done : Opens layout p s ((taking giving taking .answer .work) then mapping (taking .after))
+    opening-done : OpeningLaws layout p s ((taking giving taking .answer .work) then mapping (taking .after))
     opening-done =
         record {
           within = within-then taking-within (within-wider (λ c i. inl i) (maps .within));
@@ -266,13 +266,13 @@ module _ {layout : Layout} {p : Places} {s : Chip} (ready : Ready layout p s) wh
         ends (put e) = done e
         ends (failed x e) = unmapped x e
 
-  opening-stop : (k : ℕ) → taking .answer .work ≡ Stopped (NoSpare k) → Opens layout p s (taking giving taking .answer .work)
+  opening-stop : (k : ℕ) → taking .answer .work ≡ Stopped (NoSpare k) → OpeningLaws layout p s (taking giving taking .answer .work)
   opening-stop k e = record { within = taking-within; tried = refl; opened = λ d. not-done (sym e ∙ d); ended = roomless k e }
 
-  pub opening-laws : Opens layout p s (firstOpening layout p s)
+  pub opening-laws : OpeningLaws layout p s (firstOpening layout p s)
   opening-laws = go (takes .either)
     where
-      go : (taking .answer .work ≡ Done) ⊎ ((j : ℕ) × (taking .answer .work ≡ Stopped (NoSpare j))) → Opens layout p s (firstOpening layout p s)
+      go : (taking .answer .work ≡ Done) ⊎ ((j : ℕ) × (taking .answer .work ≡ Stopped (NoSpare j))) → OpeningLaws layout p s (firstOpening layout p s)
       go (inl e) = rw (opening-on layout p s e) (opening-done (takes .all e))
       go (inr (k, e)) = rw (opening-ends layout p s e) (opening-stop k e)
 

@@ -10,7 +10,6 @@
 --   every-more                one number more
 --   lowest-here, lowest-on    a search that finds, or goes on to the next number
 --   every-same, some-same, lowest-same  of another test with the same values
---   no-claim                  what holds only where a test held that did not
 use Prim.Native.Nat.{ℕ, zero, suc, _+_, _-_, _≤_, _<_}
 use mathlib.Core.Path.{_≡_, refl, ap₂, ap, _∙_}
 use mathlib.Core.Bool.{Bool, true, false, _&&_, _||_, cond, true≢false}
@@ -138,6 +137,3 @@ lowest-same zero k f g h = refl
 lowest-same (suc n) k f g h =
     ap₂ (λ (b : Bool) (r : Found). cond b (At k) r) (h k (omega arith) (omega arith))
     (lowest-same n (k + 1) f g (λ j l u. h j (omega arith) (omega arith)))
-
-pub no-claim : {A : Type 0} → false ≡ true → A
-no-claim e = absurd (true≢false cc)

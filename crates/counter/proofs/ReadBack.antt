@@ -20,7 +20,7 @@ use Rattle.counter.specs.declared.verdict.Verdict.the-variants.{Good}
 use Rattle.counter.specs.Layout.{Layout, slots}
 use Rattle.counter.specs.Slots.{lowest}
 use Rattle.counter.specs.Store.{slotCode}
-use Rattle.counter.specs.Reading.{nibbleIn, countIn, close, decide, twofoldAt, lostAt, weigh}
+use Rattle.counter.specs.Reading.{nibbleIn, countIn, close, decide, someTwofold, lostAt, weigh}
 use Rattle.counter.proofs.RangeTests.{every-not, none-some, none-lowest}
 
 slot-kept : (c k : ℕ) → isLost (readingOf (slotCode c k)) ≡ false
@@ -56,8 +56,8 @@ module _ (layout : Layout) {c : ℕ} {byte : ℕ → ℕ} (small : c < 2 ^ 32) (
       ∙ ap countOf (word-of-nibbles (grayOf c) (gray-small 32 c small))
       ∙ count-of-gray c small
 
-  none-twofold : lowest 8 0 (twofoldAt layout byte) ≡ Nowhere
-  none-twofold = none-lowest 8 0 (twofoldAt layout byte) (λ n from to. none-some (layout .copies) _ (λ copy l. single copy n l (omega arith)))
+  none-twofold : lowest 8 0 (someTwofold layout byte) ≡ Nowhere
+  none-twofold = none-lowest 8 0 (someTwofold layout byte) (λ n from to. none-some (layout .copies) _ (λ copy l. single copy n l (omega arith)))
     where
       single : (copy n : ℕ) → copy < layout .copies → n < 8 → twofold (byte (8 * copy + n)) ≡ false
       single copy n l m = ap twofold (exact (8 * copy + n) (slot-in copy n l m)) ∙ slot-single c (8 * copy + n)

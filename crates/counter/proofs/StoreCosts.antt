@@ -34,7 +34,7 @@ use Rattle.counter.proofs.Gaps.{between-map}
 use Rattle.counter.proofs.Ready.{pointers, dataOf, Ready, ready-placed, ready-kept}
 use Rattle.counter.proofs.Fitted.{fitted-ready, ready-short}
 use Rattle.counter.proofs.Tries.{room, spares-room}
-use Rattle.counter.proofs.Moves.{Moves, change, gapAt, tries, first, move-missing, move-landing, slot-held, slot-failed, slot-laws, Ended, Ended.done, Ended.roomless, Ended.unmapped}
+use Rattle.counter.proofs.Moves.{SlotLaws, change, gapAt, tries, first, move-missing, move-landing, slot-held, slot-failed, slot-laws, Ended, Ended.done, Ended.roomless, Ended.unmapped}
 use Rattle.counter.proofs.Stores.{done-then, stopped-then}
 
 -- at most so many writes, and so many tries
@@ -112,7 +112,7 @@ module _ (layout : Layout) (p : Places) (c : ℕ) where
       r : Run Work
       r = storeSlot layout p k (slotCode c k) s
 
-      laws : Moves layout p k (slotCode c k) (change (dataOf layout p s k) (slotCode c k)) s r
+      laws : SlotLaws layout p k (slotCode c k) (change (dataOf layout p s k) (slotCode c k)) s r
       laws = slot-laws ready well k (omega arith) (slotCode c k)
 
       slot : Costs 4099 4096 r

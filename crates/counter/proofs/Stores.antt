@@ -1,7 +1,7 @@
 -- A count stored: what it keeps, what it changes, what it costs.
 --   done-then, stopped-then   one piece of storing and then another
 --   changes                   how many slots hold another byte than they are to hold
---   Stores                    the laws of storing the n slots from k on
+--   StoreLaws                    the laws of storing the n slots from k on
 --   from-laws, store-laws     they hold of storing so
 use Prim.Native.Nat.{ℕ, zero, suc, _+_, _≤_, _<_}
 use mathlib.Core.Path.{_≡_, refl, sym, ap, ap₂, _∙_}
@@ -22,7 +22,7 @@ use Rattle.counter.specs.Verdict.{_andThen_}
 use Rattle.counter.specs.Store.{slotCode, storeSlot, storeFrom, store}
 use Rattle.counter.proofs.SoundPointers.{Sound}
 use Rattle.counter.proofs.Ready.{pointers, dataOf, Ready, Own, ready-kept}
-use Rattle.counter.proofs.Moves.{roomOf, change, not-done, Ended, Ended.done, Ended.roomless, Ended.unmapped, Settles, Moves, slot-laws}
+use Rattle.counter.proofs.Moves.{roomOf, change, not-done, Ended, Ended.done, Ended.roomless, Ended.unmapped, Settles, SlotLaws, slot-laws}
 
 -- ## One piece of storing and then another
 
@@ -48,21 +48,21 @@ changes-same (suc n) k f g code same =
     ap₂ _+_ (ap (λ (x : ℕ). change x (code k)) (same k (omega arith) (omega arith))) (changes-same n (k + 1) f g code (λ j l u. same j (omega arith) (omega arith)))
 
 -- the slots hold their codes, the others what they held, in a sound map; and what was asked has been paid for
-pub record Stored (layout : Layout) (p : Places) (n k c : ℕ) (s : Chip) (r : Run Work) : Type 0 where
+pub record AllHeld (layout : Layout) (p : Places) (n k c : ℕ) (s : Chip) (r : Run Work) : Type 0 where
   pub sound : Sound (slots layout) p (pointers layout p (r .after))
   pub held : (j : ℕ) → k ≤ j → j < k + n → dataOf layout p (r .after) j ≡ slotCode c j
   pub kept : (j : ℕ) → j < k → dataOf layout p (r .after) j ≡ dataOf layout p s j
   pub paid : askedIn (p .start) (p .end) (r .log) + roomOf layout p (r .after) ≤ changes n k (dataOf layout p s) (slotCode c) + roomOf layout p s
 
-pub record Stores (layout : Layout) (p : Places) (n k c : ℕ) (s : Chip) (r : Run Work) : Type 0 where
+pub record StoreLaws (layout : Layout) (p : Places) (n k c : ℕ) (s : Chip) (r : Run Work) : Type 0 where
   pub within : Within (Own layout p) s r
   pub mark : marked (mapIn layout p (r .after .cells)) ≡ marked (mapIn layout p (s .cells))
   pub bounded : askedIn (p .start) (p .end) (r .log) ≤ changes n k (dataOf layout p s) (slotCode c) + roomOf layout p s
-  pub stored : r .answer ≡ Done → Stored layout p n k c s r
+  pub stored : r .answer ≡ Done → AllHeld layout p n k c s r
   pub ended : Ended (r .answer)
 
 module _ (layout : Layout) (p : Places) (c : ℕ) where
-  none-laws : (k : ℕ) (s : Chip) → Sound (slots layout) p (pointers layout p s) → Stores layout p 0 k c s (still Done s)
+  none-laws : (k : ℕ) (s : Chip) → Sound (slots layout) p (pointers layout p s) → StoreLaws layout p 0 k c s (still Done s)
   unfolding changes
   none-laws k s sound =
       let z = asked-none (p .start) (p .end) in
@@ -77,8 +77,8 @@ module _ (layout : Layout) (p : Places) (c : ℕ) where
   -- a slot that stops ends the storing
   stopped-laws :
       (n k : ℕ) (s : Chip) (r : Run Work) (why : Refusal) → r .answer ≡ Stopped why
-      → Moves layout p k (slotCode c k) (change (dataOf layout p s k) (slotCode c k)) s r
-      → Stores layout p (suc n) k c s r
+      → SlotLaws layout p k (slotCode c k) (change (dataOf layout p s k) (slotCode c k)) s r
+      → StoreLaws layout p (suc n) k c s r
   unfolding changes
   stopped-laws n k s r why e m =
       record {
@@ -92,8 +92,8 @@ module _ (layout : Layout) (p : Places) (c : ℕ) where
   -- a slot that is done, and then the rest
   done-laws :
       (n k : ℕ) (s : Chip) (r q : Run Work) → k + suc n ≤ slots layout
-      → Moves layout p k (slotCode c k) (change (dataOf layout p s k) (slotCode c k)) s r → r .answer ≡ Done
-      → Stores layout p n (k + 1) c (r .after) q → Stores layout p (suc n) k c s (r then q)
+      → SlotLaws layout p k (slotCode c k) (change (dataOf layout p s k) (slotCode c k)) s r → r .answer ≡ Done
+      → StoreLaws layout p n (k + 1) c (r .after) q → StoreLaws layout p (suc n) k c s (r then q)
   unfolding changes
   done-laws n k s r q fits m e rest =
       record {
@@ -113,7 +113,7 @@ module _ (layout : Layout) (p : Places) (c : ℕ) where
       asked : askedIn (p .start) (p .end) (r .log ++ q .log) ≡ askedIn (p .start) (p .end) (r .log) + askedIn (p .start) (p .end) (q .log)
       asked = asked-append (p .start) (p .end) (r .log) (q .log)
 
-      all : Stored layout p n (k + 1) c (r .after) q → Stored layout p (suc n) k c s (r then q)
+      all : AllHeld layout p n (k + 1) c (r .after) q → AllHeld layout p (suc n) k c s (r then q)
       all x =
           record {
             sound = x .sound;
@@ -128,7 +128,7 @@ module _ (layout : Layout) (p : Places) (c : ℕ) where
 
   pub from-laws :
       (n k : ℕ) (s : Chip) → k + n ≤ slots layout → Ready layout p s
-      → Sound (slots layout) p (pointers layout p s) → Stores layout p n k c s (storeFrom n k layout p c s)
+      → Sound (slots layout) p (pointers layout p s) → StoreLaws layout p n k c s (storeFrom n k layout p c s)
   unfolding storeFrom
   from-laws zero k s fits ready sound = none-laws k s sound
   from-laws (suc n) k s fits ready sound = go (slot .ended) (λ e. from-laws n (k + 1) (r .after) (omega arith) (ready-kept ready (within-kept (slot .within))) (slot .settles e .sound))
@@ -136,19 +136,19 @@ module _ (layout : Layout) (p : Places) (c : ℕ) where
       r : Run Work
       r = storeSlot layout p k (slotCode c k) s
 
-      slot : Moves layout p k (slotCode c k) (change (dataOf layout p s k) (slotCode c k)) s r
+      slot : SlotLaws layout p k (slotCode c k) (change (dataOf layout p s k) (slotCode c k)) s r
       slot = slot-laws ready sound k (omega arith) (slotCode c k)
 
       go :
           Ended (r .answer)
-          → (r .answer ≡ Done → Stores layout p n (k + 1) c (r .after) (storeFrom n (k + 1) layout p c (r .after)))
-          → Stores layout p (suc n) k c s (r andThen storeFrom n (k + 1) layout p c)
+          → (r .answer ≡ Done → StoreLaws layout p n (k + 1) c (r .after) (storeFrom n (k + 1) layout p c (r .after)))
+          → StoreLaws layout p (suc n) k c s (r andThen storeFrom n (k + 1) layout p c)
       go (done e) rest = rw (done-then r _ e) (done-laws n k s r _ fits slot e (rest e))
       go (roomless j e) rest = rw (stopped-then r _ _ e) (stopped-laws n k s r _ e slot)
       go (unmapped a e) rest = rw (stopped-then r _ _ e) (stopped-laws n k s r _ e slot)
 
   pub store-laws :
       (s : Chip) → Ready layout p s → Sound (slots layout) p (pointers layout p s)
-      → Stores layout p (slots layout) 0 c s (store layout p c s)
+      → StoreLaws layout p (slots layout) 0 c s (store layout p c s)
   unfolding store
   store-laws s ready sound = from-laws (slots layout) 0 s (omega arith) ready sound

@@ -2,7 +2,7 @@
 --   InGap                     an address lies in a gap
 --   narrow-inside, narrow-other  what a free address leaves of a gap lies in it, and is another
 --   AllTaken                  what the taking comes to where it is done
---   Takes, take-laws          the laws of taking addresses for the n slots from k on
+--   TakeLaws, take-laws          the laws of taking addresses for the n slots from k on
 use Prim.Native.Nat.{ℕ, zero, suc, _+_, _≤_, _<_}
 use mathlib.Core.Path.{_≡_, refl, ap, _∙_}
 use mathlib.Core.List.{[], _∷_}
@@ -50,7 +50,7 @@ pub record AllTaken (n k : ℕ) (g : Gap) (r : Run TakenRun) : Type 0 where
       → Sound k p pointer
       → Sound (k + n) p pointer
 
-pub record Takes (n k : ℕ) (g : Gap) (s : Chip) (r : Run TakenRun) : Type 0 where
+pub record TakeLaws (n k : ℕ) (g : Gap) (s : Chip) (r : Run TakenRun) : Type 0 where
   pub within : Within (InGap g) s r
   pub all : r .answer .work ≡ Done → AllTaken n k g r
   pub either : (r .answer .work ≡ Done) ⊎ ((j : ℕ) × (r .answer .work ≡ Stopped (NoSpare j)))
@@ -88,7 +88,7 @@ module _ (n k : ℕ) (g : Gap) (s : Chip) where
   spares-within : Paired s → Within (InGap g) s spares
   spares-within paired = within-wider (λ c f. record { from = f .from; to = f .to }) (try-laws k g (codeOf 0) s paired .within)
 
-  missing-takes : Paired s → Takes (suc n) k g s (spares then still (taken (Stopped (NoSpare k)) []) (spares .after))
+  missing-takes : Paired s → TakeLaws (suc n) k g s (spares then still (taken (Stopped (NoSpare k)) []) (spares .after))
   missing-takes paired =
       record {
         within = within-then (spares-within paired) (within-still _ _);
@@ -130,8 +130,8 @@ module _ (n k : ℕ) (g : Gap) (s : Chip) where
 
   landing-takes :
       Paired s → (m : Landing k g (codeOf 0) s)
-      → Takes n (k + 1) (narrow (kindOf k) (m .place) g) (spares .after) (rest (m .place))
-      → Takes (suc n) k g s (one-more (m .place))
+      → TakeLaws n (k + 1) (narrow (kindOf k) (m .place) g) (spares .after) (rest (m .place))
+      → TakeLaws (suc n) k g s (one-more (m .place))
   landing-takes paired m t =
       record {
         within = within-then (spares-within paired) (within-giving _ (within-wider (λ c i. narrow-inside (kindOf k) g (m .place) c (m .free) i) (t .within)));
@@ -139,7 +139,7 @@ module _ (n k : ℕ) (g : Gap) (s : Chip) where
         either = t .either;
       }
 
-pub take-laws : (n k : ℕ) (g : Gap) (s : Chip) → Paired s → Takes n k g s (takeFrom n k g s)
+pub take-laws : (n k : ℕ) (g : Gap) (s : Chip) → Paired s → TakeLaws n k g s (takeFrom n k g s)
 unfolding takeFrom
 take-laws zero k g s paired =
     record {
@@ -151,7 +151,7 @@ take-laws (suc n) k g s paired = go (try-laws k g (codeOf 0) s paired .trying) (
   where
     go :
         Trying k g (codeOf 0) s
-        → ((m : Landing k g (codeOf 0) s) → Takes n (k + 1) (narrow (kindOf k) (m .place) g) (trySpares k g (codeOf 0) s .after) (rest n k g s (m .place)))
-        → Takes (suc n) k g s (takeFrom (suc n) k g s)
+        → ((m : Landing k g (codeOf 0) s) → TakeLaws n (k + 1) (narrow (kindOf k) (m .place) g) (trySpares k g (codeOf 0) s .after) (rest n k g s (m .place)))
+        → TakeLaws (suc n) k g s (takeFrom (suc n) k g s)
     go (missing m) later = rw (take-missing n k g s (m .nowhere)) (missing-takes n k g s paired)
     go (landing m) later = rw (take-landing n k g s (m .place) (m .here)) (landing-takes n k g s paired m (later m))

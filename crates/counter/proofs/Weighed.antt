@@ -19,7 +19,7 @@ use Rattle.counter.specs.declared.reading.Fault.the-variants.{Twofold, L
 use Rattle.counter.specs.declared.verdict.Refusal.the-variants.{TwoCodes, LostNibble}
 use Rattle.counter.specs.Layout.{two}
 use Rattle.counter.specs.Slots.{every, some, lowest}
-use Rattle.counter.specs.Reading.{firstRead, nibbleIn, countIn, twofoldAt, lostAt, decide, onFound, weigh}
+use Rattle.counter.specs.Reading.{firstRead, nibbleIn, countIn, someTwofold, lostAt, decide, onFound, weigh}
 use Rattle.counter.specs.Inside.{amiss}
 use Rattle.counter.proofs.RangeTests.{every-same, some-same, lowest-same}
 
@@ -68,11 +68,11 @@ module _ (byte entry : ℕ → ℕ) (small : (k : ℕ) → k < 16 → byte k < 2
   folded : (k : ℕ) → k < 16 → twofold (byte k) ≡ twofoldEntry (entry k)
   folded k l = sym (entry-twofold (byte k) (small k l)) ∙ ap twofoldEntry (sym (are k l))
 
-  twofold-entries : lowest 8 0 (twofoldAt two byte) ≡ lowest 8 0 (λ n. amiss Twofold (entry n) (entry (8 + n)))
+  twofold-entries : lowest 8 0 (someTwofold two byte) ≡ lowest 8 0 (λ n. amiss Twofold (entry n) (entry (8 + n)))
   unfolding some
   twofold-entries = lowest-same 8 0 _ _ (λ n from to. same n to)
     where
-      same : (n : ℕ) → n < 0 + 8 → twofoldAt two byte n ≡ amiss Twofold (entry n) (entry (8 + n))
+      same : (n : ℕ) → n < 0 + 8 → someTwofold two byte n ≡ amiss Twofold (entry n) (entry (8 + n))
       same n to = rw (zero-add n, folded n (omega arith), folded (8 + n) (omega arith))
 
   lost-entries : lowest 8 0 (lostAt two (λ k. readingOf (byte k))) ≡ lowest 8 0 (λ n. amiss LostInAll (entry n) (entry (8 + n)))
@@ -99,7 +99,7 @@ weigh-same one other agree =
     read : (k : ℕ) → k < 16 → readingOf (one k) ≡ readingOf (other k)
     read k l = ap readingOf (agree k l)
 
-    twofolds : lowest 8 0 (twofoldAt two one) ≡ lowest 8 0 (twofoldAt two other)
+    twofolds : lowest 8 0 (someTwofold two one) ≡ lowest 8 0 (someTwofold two other)
     twofolds = lowest-same 8 0 _ _ (λ n from to. some-same 2 _ _ (λ copy l. ap twofold (agree (8 * copy + n) (omega arith))))
 
     losts : lowest 8 0 (lostAt two (λ k. readingOf (one k))) ≡ lowest 8 0 (lostAt two (λ k. readingOf (other k)))

@@ -2,10 +2,10 @@
 -- and what is left (document 01, "Storing, opening, stepping" and "What comes back").
 use Prim.Native.Nat.{ℕ, _+_, _-_}
 use mathlib.Core.Path.{_≡_}
-use mathlib.Core.Bool.{Bool, not, cond, _&&_}
+use mathlib.Core.Bool.{cond, _&&_}
 use mathlib.Core.List.{List}
 use lib.IntN.{ℤ, pos}
-use lib.ListN.{take, drop}
+use lib.ListN.{length, take, drop}
 use lib.Dec.{leb, eqb}
 use Rattle.cells.specs.Chip.{Chip}
 use Rattle.cells.specs.Run.{Run, still}
@@ -14,12 +14,12 @@ use Rattle.counter.specs.declared.places.Places.{Places}
 use Rattle.counter.specs.declared.verdict.Answer.{Answer}
 use Rattle.counter.specs.declared.verdict.Verdict.{Verdict}
 use Rattle.counter.specs.declared.verdict.Verdict.the-variants.{Good, Refused}
-use Rattle.counter.specs.declared.verdict.Refusal.the-variants.{BadLength, UnsoundMap, BadCopy, LastCount}
+use Rattle.counter.specs.declared.verdict.Refusal.the-variants.{BadLength, BadPlaces, UnsoundMap, BadCopy, LastCount}
 use Rattle.counter.specs.Layout.{Layout, two, copyCells}
-use Rattle.counter.specs.Places.{livesGood, fitted}
+use Rattle.counter.specs.Places.{lengthGood, placesGood, livesGood}
 use Rattle.counter.specs.Map.{mapIn, marked, pointerOf, sound, partAt}
-use Rattle.counter.specs.Verdict.{Outcome, outcome, outcomeOf, refusalOf, answerOf, onGood, _endingIn_, _andThen_}
-use Rattle.counter.specs.Reading.{unless, guarded, verdictOf}
+use Rattle.counter.specs.Verdict.{Outcome, outcome, outcomeOf, refusalOf, answerOf, onGood, provided, _endingIn_, _andThen_}
+use Rattle.counter.specs.Reading.{unless, guarded, examine, verdictOf}
 use Rattle.counter.specs.Store.{store}
 use Rattle.counter.specs.Opening.{firstOpening}
 
@@ -31,23 +31,23 @@ lastCount = 4294967295
 unfoldable pub chipVerdict : Layout → Places → Chip → Verdict
 chipVerdict layout p s = unless (livesGood s) BadLength (verdictOf layout p (s .cells))
 
--- refusals 1 and 2 do not hold, and the mark is not there
-unfoldable pub unopened : Layout → Places → Chip → Bool
-unopened layout p s = fitted layout p s && not (marked (mapIn layout p (s .cells)))
-
 -- Open, both mark bytes right: read c, store c.
 abbrev pub reopening : Layout → Places → Chip → Run Verdict
-reopening layout p s = onGood (chipVerdict layout p s) (λ c lag. store layout p c s endingIn Good c lag) s
+reopening layout p s = onGood (examine layout p (s .cells)) (λ c lag. store layout p c s endingIn Good c lag) s
 
 -- Open, else: a first opening, whose count is 0.
 abbrev pub beginning : Layout → Places → Chip → Run Verdict
 beginning layout p s = firstOpening layout p s endingIn Good 0 (pos 0)
 
+-- Open: refusals 1 and 2; otherwise the mark decides.
 unfoldable pub openRun : Layout → Places → Chip → Run Verdict
 openRun layout p s =
     let first = beginning layout p s in
     let again = reopening layout p s in
-    cond (unopened layout p s) first again
+    provided (livesGood s) BadLength s
+    (provided (lengthGood layout (length (s .cells))) BadLength s
+    (provided (placesGood layout (length (s .cells)) p) BadPlaces s
+    (cond (marked (mapIn layout p (s .cells))) again first)))
 
 -- Step, from a count c with a lag that was read: store c, then store c + 1.
 abbrev pub stepping : Layout → Places → ℕ → ℤ → Chip → Run Verdict

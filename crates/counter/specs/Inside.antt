@@ -61,7 +61,7 @@ stopped (Stopped why) = true
 
 -- how a taking ended that served so many slots
 abbrev pub served : ℕ → Work
-served count = cond (ltb count 16) (Stopped (NoSpare count)) Done
+served count = cond (ltb count (slots two)) (Stopped (NoSpare count)) Done
 
 -- the bytes that hold addresses as the pointers of the slots from k on
 unfoldable pub pointerRow : List ℕ → ℕ → List ℕ

@@ -10,6 +10,10 @@ use Rattle.counter.specs.Layout.{Layout, slots, mapCells}
 abbrev pub places : ℕ → ℕ → ℕ → Places
 places m s e = record { map = m; start = s; end = e }
 
+-- setting A, on which the bench measures
+abbrev pub settingA : Places
+settingA = places 1 25 128
+
 -- the image is 41 to 4096 bytes long; 41 is room for cell 0, the map and an area of the least size
 unfoldable pub lengthGood : Layout → ℕ → Bool
 lengthGood layout n = leb (1 + mapCells layout + slots layout) n && leb n 4096

@@ -55,8 +55,8 @@ unfoldable pub decide : ℕ → ℕ → Verdict
 decide c1 c2 = let lag = pos c1 -ℤ pos c2 in cond (close lag) (Good c1 lag) (Refused (Apart lag))
 
 -- some copy holds a byte one bit from two codes at nibble n
-abbrev pub twofoldAt : Layout → (ℕ → ℕ) → ℕ → Bool
-twofoldAt layout byte n = some (layout .copies) (λ copy. twofold (byte (8 * copy + n)))
+abbrev pub someTwofold : Layout → (ℕ → ℕ) → ℕ → Bool
+someTwofold layout byte n = some (layout .copies) (λ copy. twofold (byte (8 * copy + n)))
 
 -- nibble n is lost in every copy
 abbrev pub lostAt : Layout → (ℕ → Reading) → ℕ → Bool
@@ -76,7 +76,7 @@ onFound Nowhere why rest = rest
 unfoldable pub weigh : Layout → (ℕ → ℕ) → Verdict
 weigh layout byte =
     let reading : ℕ → Reading = λ k. readingOf (byte k) in
-    onFound (lowest 8 0 (twofoldAt layout byte)) TwoCodes
+    onFound (lowest 8 0 (someTwofold layout byte)) TwoCodes
     (onFound (lowest 8 0 (lostAt layout reading)) LostNibble
     (decide (countIn layout reading 0) (countIn layout reading (layout .copies - 1))))
 

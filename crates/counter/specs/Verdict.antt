@@ -1,5 +1,6 @@
 -- What comes back (document 01, "What comes back"): each way a call can end, with this paper's number and values.
 use Prim.Native.Nat.{ℕ}
+use mathlib.Core.Bool.{Bool, true, false}
 use lib.IntN.{ℤ, pos}
 use lib.ListN.{length}
 use Rattle.cells.specs.Chip.{Chip}
@@ -57,6 +58,11 @@ outcomeOf r = outcome (answerOf (r .answer) (length (r .log)) (r .tried)) (r .af
 abbrev pub onGood : Verdict → (ℕ → ℤ → Run Verdict) → Chip → Run Verdict
 onGood (Good count lag) work s = work count lag
 onGood (Refused why) work s = still (Refused why) s
+
+-- the work, if the test holds; else a refusal, which touches nothing
+abbrev pub provided : Bool → Refusal → Chip → Run Verdict → Run Verdict
+provided true why s work = work
+provided false why s work = still (Refused why) s
 
 -- how a call ends, given how it ends when its storing is done
 abbrev pub ending : Verdict → Work → Verdict

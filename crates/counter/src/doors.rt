@@ -12,7 +12,7 @@ ghost use Rattle.counter.specs.Places.{places, fitted};
 ghost use Rattle.counter.specs.Map.{mapIn, pointerOf, sound};
 ghost use Rattle.counter.specs.Verdict.{ending, answerOf, outcome, outcomeOf, _andThen_};
 ghost use Rattle.counter.specs.Store.{store};
-ghost use Rattle.counter.specs.Doors.{beginning, reopening, stepping, partVerdict, mapPartOf, Opens, Steps, Reads, HandsBack};
+ghost use Rattle.counter.specs.Doors.{lastCount, beginning, reopening, stepping, partVerdict, mapPartOf, Opens, Steps, Reads, HandsBack};
 ghost use Rattle.counter.specs.Inside.{standingOf, Holds};
 use super::map::Map;
 use super::opening::open_first;
@@ -118,7 +118,7 @@ pub fn open(image: &mut [u8], lives: &mut [u32], m: usize, s: usize, e: usize) -
 
 // Two stores, one after the other: the count that was read, and the next.
 fn store_twice(image: &mut [u8], lives: &mut [u32], p: Places, count: u32) -> Stored
-    requires { ⌜ (fitted two p (chip (now image) (now lives)) ≡ true) × (sound two p (pointerOf (mapIn two p (now image))) ≡ true) × (count < 4294967295) ⌝ }
+    requires { ⌜ (fitted two p (chip (now image) (now lives)) ≡ true) × (sound two p (pointerOf (mapIn two p (now image))) ≡ true) × (count < lastCount) ⌝ }
     ensures { λ r. ⌜ seen (r .work) (r .writes) (r .tried) (chip (now (image .exit)) (now (lives .exit))) ≡ view (store two p count (chip (now (image .entry)) (now (lives .entry))) andThen store two p (count + 1)) ⌝ }
 {
     let settled = store_count(image, lives, p, count);
@@ -142,7 +142,7 @@ fn advance(
     lag: i64,
     exact: bool,
 ) -> Answer
-    requires { ⌜ (fitted two p (chip (now image) (now lives)) ≡ true) × (sound two p (pointerOf (mapIn two p (now image))) ≡ true) × (count < 4294967295) × (exact ≡ true → Holds two p count (now image)) ⌝ }
+    requires { ⌜ (fitted two p (chip (now image) (now lives)) ≡ true) × (sound two p (pointerOf (mapIn two p (now image))) ≡ true) × (count < lastCount) × (exact ≡ true → Holds two p count (now image)) ⌝ }
     ensures { λ r. ⌜ outcome r (chip (now (image .exit)) (now (lives .exit))) ≡ outcomeOf (stepping two p count lag (chip (now (image .entry)) (now (lives .entry)))) ⌝ }
 {
     if exact {

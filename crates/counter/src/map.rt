@@ -3,6 +3,7 @@
 ghost use mathlib.Core.Path.{_≡_};
 ghost use Prim.Native.Nat.{ℕ, _+_, _%_, _≤_, _<_};
 ghost use lib.ListN.{length, getD, take, drop};
+ghost use Rattle.counter.specs.Layout.{two, slots, mapCells};
 ghost use Rattle.counter.specs.Map.{marked, offsetOf, pointerOf};
 use code::table::wide;
 
@@ -40,8 +41,8 @@ impl Map {
 
     // The map's cells, as a part of the image.
     pub(crate) fn cells(self, image: &[u8]) -> &[u8]
-        requires { ⌜ self .place + 24 ≤ length (now image) ⌝ }
-        ensures { λ r. ⌜ now r ≡ take 24 (drop (self .place) (now (image .entry))) ⌝ }
+        requires { ⌜ self .place + mapCells two ≤ length (now image) ⌝ }
+        ensures { λ r. ⌜ now r ≡ take (mapCells two) (drop (self .place) (now (image .entry))) ⌝ }
     {
         let from = self.place;
         let to = from + Map::SIZE;
@@ -51,7 +52,7 @@ impl Map {
 
 // Whether both bytes of the mark are there.
 pub(crate) fn is_marked(map: &[u8]) -> bool
-    requires { ⌜ length (now map) ≡ 24 ⌝ }
+    requires { ⌜ length (now map) ≡ mapCells two ⌝ }
     ensures { λ r. ⌜ r ≡ marked (now (map .entry)) ⌝ }
 {
     if map[0] != Map::MARK_FIRST {
@@ -65,7 +66,7 @@ pub(crate) fn is_marked(map: &[u8]) -> bool
 
 // Where a slot's pointer starts in the map.
 pub(crate) fn offset_of(slot: usize) -> usize
-    requires { ⌜ slot < 16 ⌝ }
+    requires { ⌜ slot < slots two ⌝ }
     ensures { λ r. ⌜ r ≡ offsetOf slot ⌝ }
 {
     let nibble = slot % 8;
@@ -78,7 +79,7 @@ pub(crate) fn offset_of(slot: usize) -> usize
 
 // A slot's pointer: two bytes, low byte first, for a Low one, and one for a High one.
 pub(crate) fn pointer_of(map: &[u8], slot: usize) -> usize
-    requires { ⌜ (length (now map) ≡ 24) × (slot < 16) ⌝ }
+    requires { ⌜ (length (now map) ≡ mapCells two) × (slot < slots two) ⌝ }
     ensures { λ r. ⌜ (r ≡ pointerOf (now (map .entry)) slot) × (r < 65536) × (3 ≤ slot % 8 → r < 256) ⌝ }
 {
     if slot % 8 < 3 {
@@ -91,8 +92,8 @@ pub(crate) fn pointer_of(map: &[u8], slot: usize) -> usize
 
 // The pointers of all slots, for a test that reads each many times.
 pub(crate) fn pointers_of(map: &[u8]) -> [usize; 16]
-    requires { ⌜ length (now map) ≡ 24 ⌝ }
-    ensures { λ r. ⌜ ((k : ℕ) → k < 16 → getD r k 0 ≡ pointerOf (now (map .entry)) k) ⌝ }
+    requires { ⌜ length (now map) ≡ mapCells two ⌝ }
+    ensures { λ r. ⌜ ((k : ℕ) → k < slots two → getD r k 0 ≡ pointerOf (now (map .entry)) k) ⌝ }
 {
     let mut pointers = [0usize; 16];
     let mut slot = 0;

@@ -7,7 +7,7 @@ ghost use lib.ListN.{length, getD, take};
 ghost use Rattle.cells.specs.Chip.{chip};
 ghost use Rattle.cells.specs.Run.{seen, view};
 ghost use Rattle.cells.specs.Row.{putRow};
-ghost use Rattle.counter.specs.Layout.{two};
+ghost use Rattle.counter.specs.Layout.{two, slots, copyCells};
 ghost use Rattle.counter.specs.Slots.{kindOf};
 ghost use Rattle.counter.specs.Places.{fitted};
 ghost use Rattle.counter.specs.Map.{reachable};
@@ -42,7 +42,7 @@ struct Takings {
 // the lowest Low pointer, as in a gap.
 fn take_addresses(image: &mut [u8], lives: &mut [u32], p: Places) -> Takings
     requires { ⌜ fitted two p (chip (now image) (now lives)) ≡ true ⌝ }
-    ensures { λ r. ⌜ seen (taken (served (r .count)) (take (r .count) (r .addresses))) (r .writes) 0 (chip (now (image .exit)) (now (lives .exit))) ≡ view (untried (takeFrom 16 0 (wholeArea p) (chip (now (image .entry)) (now (lives .entry))))) ⌝ }
+    ensures { λ r. ⌜ seen (taken (served (r .count)) (take (r .count) (r .addresses))) (r .writes) 0 (chip (now (image .exit)) (now (lives .exit))) ≡ view (untried (takeFrom (slots two) 0 (wholeArea p) (chip (now (image .entry)) (now (lives .entry))))) ⌝ }
 {
     let mut addresses = [0usize; 16];
     let mut high = p.start;
@@ -79,7 +79,7 @@ fn take_addresses(image: &mut [u8], lives: &mut [u32], p: Places) -> Takings
 
 // The bytes that hold addresses as the pointers of all slots, in order.
 fn pointer_row(addresses: &[usize; 16]) -> [u8; 22]
-    requires { ⌜ (length (now addresses) ≡ 16) × ((k : ℕ) → k < 16 → (getD (now addresses) k 0 < 65536) × (reachable (kindOf k) (getD (now addresses) k 0) ≡ true)) ⌝ }
+    requires { ⌜ (length (now addresses) ≡ slots two) × ((k : ℕ) → k < slots two → (getD (now addresses) k 0 < 65536) × (reachable (kindOf k) (getD (now addresses) k 0) ≡ true)) ⌝ }
     ensures { λ r. ⌜ r ≡ pointerRow (now (addresses .entry)) 0 ⌝ }
 {
     let mut bytes = [0u8; 22];
@@ -108,7 +108,7 @@ fn put_mark(image: &mut [u8], lives: &mut [u32], p: Places) -> Stored
 // The bytes of all pointers, those of one copy and then those of the other: rows short enough for the compiler to
 // lay out byte by byte.
 fn put_copies(image: &mut [u8], lives: &mut [u32], at: usize, bytes: &[u8]) -> RowPut
-    requires { ⌜ (at + length (now bytes) ≤ length (now image)) × (length (now lives) ≡ length (now image)) × (11 ≤ length (now bytes)) ⌝ }
+    requires { ⌜ (at + length (now bytes) ≤ length (now image)) × (length (now lives) ≡ length (now image)) × (copyCells ≤ length (now bytes)) ⌝ }
     ensures { λ r. ⌜ seen (r .failed) (r .writes) 0 (chip (now (image .exit)) (now (lives .exit))) ≡ view (putRow (now (bytes .entry)) at (chip (now (image .entry)) (now (lives .entry)))) ⌝ }
 {
     let first = put_row(image, lives, at, &bytes[0..Map::COPY_SIZE]);
@@ -131,7 +131,7 @@ fn put_copies(image: &mut [u8], lives: &mut [u32], at: usize, bytes: &[u8]) -> R
 
 // The map: addresses put as the pointers of all slots, as one row of bytes, and then the mark.
 fn put_map(image: &mut [u8], lives: &mut [u32], p: Places, addresses: &[usize; 16]) -> Stored
-    requires { ⌜ (fitted two p (chip (now image) (now lives)) ≡ true) × (length (now addresses) ≡ 16) × ((k : ℕ) → k < 16 → (getD (now addresses) k 0 < 65536) × (reachable (kindOf k) (getD (now addresses) k 0) ≡ true)) ⌝ }
+    requires { ⌜ (fitted two p (chip (now image) (now lives)) ≡ true) × (length (now addresses) ≡ slots two) × ((k : ℕ) → k < slots two → (getD (now addresses) k 0 < 65536) × (reachable (kindOf k) (getD (now addresses) k 0) ≡ true)) ⌝ }
     ensures { λ r. ⌜ seen (r .work) (r .writes) (r .tried) (chip (now (image .exit)) (now (lives .exit))) ≡ view (putPointers (now (addresses .entry)) 0 p (chip (now (image .entry)) (now (lives .entry))) andThen putMark p) ⌝ }
 {
     let bytes = pointer_row(addresses);

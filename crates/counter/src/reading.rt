@@ -15,7 +15,7 @@ ghost use Rattle.counter.specs.Places.{lengthGood, placesGood};
 ghost use Rattle.counter.specs.Store.{slotCode};
 ghost use Rattle.counter.specs.Inside.{listed, Reaches, amiss, Holds};
 ghost use Rattle.counter.specs.declared.verdict.Verdict.the-variants.{Good};
-ghost use Rattle.counter.specs.Layout.{two};
+ghost use Rattle.counter.specs.Layout.{two, slots};
 use super::map::Map;
 use super::map::pointer_of;
 use super::places::Places;
@@ -37,7 +37,7 @@ use code::table::wide;
 
 // The byte at a slot's pointer.
 fn byte_of(image: &[u8], map: &[u8], slot: usize) -> u8
-    requires { ⌜ (Reaches (now image) (now map)) × (slot < 16) ⌝ }
+    requires { ⌜ (Reaches (now image) (now map)) × (slot < slots two) ⌝ }
     ensures { λ r. ⌜ r ≡ dataAt (now (image .entry)) (now (map .entry)) slot ⌝ }
 {
     image[pointer_of(map, slot)]
@@ -46,7 +46,7 @@ fn byte_of(image: &[u8], map: &[u8], slot: usize) -> u8
 // The bytes at all pointers.
 fn data_of(image: &[u8], map: &[u8]) -> [u8; 16]
     requires { ⌜ Reaches (now image) (now map) ⌝ }
-    ensures { λ r. ⌜ ((k : ℕ) → k < 16 → listed r k ≡ dataAt (now (image .entry)) (now (map .entry)) k) ⌝ }
+    ensures { λ r. ⌜ ((k : ℕ) → k < slots two → listed r k ≡ dataAt (now (image .entry)) (now (map .entry)) k) ⌝ }
 {
     let mut data = [0u8; 16];
     let mut slot = 0;
@@ -204,7 +204,7 @@ pub struct Finding {
 // What the bytes of the slots come to: where both copies are the same codes, there is nothing to weigh.
 fn found_in(image: &[u8], map: &[u8]) -> Finding
     requires { ⌜ Reaches (now image) (now map) ⌝ }
-    ensures { λ r. ⌜ (r .verdict ≡ weigh two (dataAt (now (image .entry)) (now (map .entry)))) × (r .exact ≡ true → (c : ℕ) (lag : ℤ) → r .verdict ≡ Good c lag → (k : ℕ) → k < 16 → dataAt (now (image .entry)) (now (map .entry)) k ≡ slotCode c k) ⌝ }
+    ensures { λ r. ⌜ (r .verdict ≡ weigh two (dataAt (now (image .entry)) (now (map .entry)))) × (r .exact ≡ true → (c : ℕ) (lag : ℤ) → r .verdict ≡ Good c lag → (k : ℕ) → k < slots two → dataAt (now (image .entry)) (now (map .entry)) k ≡ slotCode c k) ⌝ }
 {
     let plain = plain_word(image, map);
     if plain.clean {

@@ -6,7 +6,7 @@ ghost use lib.Bits.{bitOr};
 ghost use lib.Count.{ones};
 ghost use lib.Dec.{eqb};
 ghost use lib.ListN.{length};
-ghost use Rattle.counter.specs.Layout.{two};
+ghost use Rattle.counter.specs.Layout.{two, slots, mapCells};
 ghost use Rattle.counter.specs.Slots.{kindOf, every};
 ghost use Rattle.counter.specs.Map.{pointerOf, sound};
 ghost use Rattle.counter.specs.Spares.{gapTo, mayTry};
@@ -42,7 +42,7 @@ fn higher(a: usize, b: usize) -> usize
 
 // A number at most every Low pointer, or 0 where one is past the area's end.
 fn low_border(map: &[u8], p: Places) -> usize
-    requires { ⌜ length (now map) ≡ 24 ⌝ }
+    requires { ⌜ length (now map) ≡ mapCells two ⌝ }
     ensures { λ r. ⌜ (0 < r → (n : ℕ) → n < 3 → (r ≤ pointerOf (now (map .entry)) n) × (pointerOf (now (map .entry)) n ≤ p .end) × (r ≤ pointerOf (now (map .entry)) (8 + n)) × (pointerOf (now (map .entry)) (8 + n) ≤ p .end)) ⌝ }
 {
     let mut border = 65535;
@@ -71,7 +71,7 @@ fn is_between(a: usize, start: usize, border: usize) -> bool
 
 // Whether every High pointer is in the area and below a border. One is a byte, so that it is at most 255.
 fn highs_below(map: &[u8], p: Places, border: usize) -> bool
-    requires { ⌜ length (now map) ≡ 24 ⌝ }
+    requires { ⌜ length (now map) ≡ mapCells two ⌝ }
     ensures { λ r. ⌜ (r ≡ true → (n : ℕ) → 3 ≤ n → n < 8 → (p .start ≤ pointerOf (now (map .entry)) n) × (pointerOf (now (map .entry)) n < border) × (pointerOf (now (map .entry)) n < 256) × (p .start ≤ pointerOf (now (map .entry)) (8 + n)) × (pointerOf (now (map .entry)) (8 + n) < border) × (pointerOf (now (map .entry)) (8 + n) < 256)) ⌝ }
 {
     if border < p.start {
@@ -93,8 +93,8 @@ fn highs_below(map: &[u8], p: Places, border: usize) -> bool
 // Whether each pointer could be tried after those before it: then all are in the area, High ones at most
 // 255, and every High one below every Low one.
 fn in_order(map: &[u8], p: Places) -> bool
-    requires { ⌜ (length (now map) ≡ 24) × (p .end < 4096) ⌝ }
-    ensures { λ r. ⌜ r ≡ every 16 (λ k. mayTry p (kindOf k) (gapTo k p (pointerOf (now (map .entry)))) (pointerOf (now (map .entry)) k)) ⌝ }
+    requires { ⌜ (length (now map) ≡ mapCells two) × (p .end < 4096) ⌝ }
+    ensures { λ r. ⌜ r ≡ every (slots two) (λ k. mayTry p (kindOf k) (gapTo k p (pointerOf (now (map .entry)))) (pointerOf (now (map .entry)) k)) ⌝ }
 {
     let mut gap = whole_area(p);
     let mut slot = 0;
@@ -120,7 +120,7 @@ fn with_bit(bits: u64, a: usize, skew: usize) -> u64
 // The bits of the pointers of the nibbles from one up to another, in both copies: as many as there are pointers only
 // if no two have the same bit.
 fn bits_of(map: &[u8], from: usize, to: usize, skew: usize) -> u64
-    requires { ⌜ (length (now map) ≡ 24) × (from ≤ to) × (to ≤ 8) × (skew ≤ 1) ⌝ }
+    requires { ⌜ (length (now map) ≡ mapCells two) × (from ≤ to) × (to ≤ 8) × (skew ≤ 1) ⌝ }
     ensures { λ r. ⌜ (ones r ≤ 2 * (to - from)) × (ones r ≡ 2 * (to - from) → Differ (Among from to) (λ k. (pointerOf (now (map .entry)) k + skew * (pointerOf (now (map .entry)) k / 64)) % 64)) ⌝ }
 {
     let mut bits = 0u64;
@@ -135,7 +135,7 @@ fn bits_of(map: &[u8], from: usize, to: usize, skew: usize) -> u64
 
 // Whether no two pointers of one kind have the same bit: where they are in order, the quick way to see that all differ.
 fn spread(map: &[u8], skew: usize) -> bool
-    requires { ⌜ (length (now map) ≡ 24) × (skew ≤ 1) ⌝ }
+    requires { ⌜ (length (now map) ≡ mapCells two) × (skew ≤ 1) ⌝ }
     ensures { λ r. ⌜ (r ≡ true → (Differ (Among 0 3) (pointerOf (now (map .entry)))) × (Differ (Among 3 8) (pointerOf (now (map .entry))))) ⌝ }
 {
     let low = u64::count_ones(bits_of(map, 0, 3, skew));
@@ -145,7 +145,7 @@ fn spread(map: &[u8], skew: usize) -> bool
 
 // Whether a slot's pointer is none of those before it.
 fn is_new(pointers: &[usize; 16], slot: usize) -> bool
-    requires { ⌜ slot < 16 ⌝ }
+    requires { ⌜ slot < slots two ⌝ }
     ensures { λ r. ⌜ r ≡ every slot (λ i. not (eqb (listed (now (pointers .entry)) i) (listed (now (pointers .entry)) slot))) ⌝ }
 {
     let a = pointers[slot];
@@ -161,8 +161,8 @@ fn is_new(pointers: &[usize; 16], slot: usize) -> bool
 
 // Whether all pointers are different, each compared with those before it.
 fn all_differ(map: &[u8]) -> bool
-    requires { ⌜ length (now map) ≡ 24 ⌝ }
-    ensures { λ r. ⌜ r ≡ every 16 (λ j. every j (λ i. not (eqb (pointerOf (now (map .entry)) i) (pointerOf (now (map .entry)) j)))) ⌝ }
+    requires { ⌜ length (now map) ≡ mapCells two ⌝ }
+    ensures { λ r. ⌜ r ≡ every (slots two) (λ j. every j (λ i. not (eqb (pointerOf (now (map .entry)) i) (pointerOf (now (map .entry)) j)))) ⌝ }
 {
     let pointers = pointers_of(map);
     let mut slot = 0;
@@ -179,7 +179,7 @@ fn all_differ(map: &[u8]) -> bool
 // 64 have different bits, as a rule, where each 64 cells move the bits on by one. It has two callers, so that the compiler
 // keeps it apart from what is usual.
 pub(crate) fn plainly_sound(map: &[u8], p: Places, ordered: bool) -> bool
-    requires { ⌜ (length (now map) ≡ 24) × (p .end < 4096) × (ordered ≡ true → every 16 (λ k. mayTry p (kindOf k) (gapTo k p (pointerOf (now map))) (pointerOf (now map) k)) ≡ true) ⌝ }
+    requires { ⌜ (length (now map) ≡ mapCells two) × (p .end < 4096) × (ordered ≡ true → every (slots two) (λ k. mayTry p (kindOf k) (gapTo k p (pointerOf (now map))) (pointerOf (now map) k)) ≡ true) ⌝ }
     ensures { λ r. ⌜ r ≡ sound two p (pointerOf (now (map .entry))) ⌝ }
 {
     if !ordered {
@@ -196,7 +196,7 @@ pub(crate) fn plainly_sound(map: &[u8], p: Places, ordered: bool) -> bool
 // Whether the pointers are sound. As a rule a border between Low and High pointers shows their order, and a word of bits
 // for each kind that they differ.
 pub(crate) fn is_sound(map: &[u8], p: Places) -> bool
-    requires { ⌜ (length (now map) ≡ 24) × (p .end < 4096) ⌝ }
+    requires { ⌜ (length (now map) ≡ mapCells two) × (p .end < 4096) ⌝ }
     ensures { λ r. ⌜ r ≡ sound two p (pointerOf (now (map .entry))) ⌝ }
 {
     let border = low_border(map, p);

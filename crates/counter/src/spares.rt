@@ -2,7 +2,7 @@
 ghost use mathlib.Core.Path.{_≡_};
 ghost use Prim.Native.Nat.{_+_, _≤_, _<_};
 ghost use lib.ListN.{length};
-ghost use Rattle.counter.specs.Layout.{two};
+ghost use Rattle.counter.specs.Layout.{two, mapCells};
 ghost use Rattle.counter.specs.Slots.{kindOf};
 ghost use Rattle.counter.specs.Map.{pointerOf};
 ghost use Rattle.counter.specs.Spares.{wholeArea, narrow, gapOf, mayTry, wayOf, nextOf, sparesOf};
@@ -107,7 +107,7 @@ pub(crate) fn may_try(p: Places, slot: usize, g: Gap, a: usize) -> bool
 
 // The gap that the pointers of all slots leave.
 pub(crate) fn gap_of(map: &[u8], p: Places) -> Gap
-    requires { ⌜ (length (now map) ≡ 24) × (p .end < 4096) ⌝ }
+    requires { ⌜ (length (now map) ≡ mapCells two) × (p .end < 4096) ⌝ }
     ensures { λ r. ⌜ r ≡ gapOf two p (pointerOf (now (map .entry))) ⌝ }
 {
     let mut gap = whole_area(p);

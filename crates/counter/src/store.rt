@@ -12,6 +12,7 @@ ghost use Rattle.counter.specs.Places.{placesGood, fitted};
 ghost use Rattle.counter.specs.Map.{mapIn, pointerOf, sound, reachable};
 ghost use Rattle.counter.specs.Verdict.{_andThen_};
 ghost use Rattle.counter.specs.Store.{mapped, putPointer, trySpares, moveSlot, storeSlot, store};
+ghost use Rattle.counter.specs.Doors.{lastCount};
 ghost use Rattle.counter.specs.Inside.{stopped, Holds};
 use super::map::Map;
 use super::map::offset_of;
@@ -88,7 +89,7 @@ pub(crate) fn mapped(row: RowPut) -> Stored
 
 // An address put as a slot's pointer, low byte first.
 fn put_pointer(image: &mut [u8], lives: &mut [u32], p: Places, slot: usize, a: usize) -> Stored
-    requires { ⌜ (fitted two p (chip (now image) (now lives)) ≡ true) × (slot < 16) × (a < 65536) × (reachable (kindOf slot) a ≡ true) ⌝ }
+    requires { ⌜ (fitted two p (chip (now image) (now lives)) ≡ true) × (slot < slots two) × (a < 65536) × (reachable (kindOf slot) a ≡ true) ⌝ }
     ensures { λ r. ⌜ seen (r .work) (r .writes) (r .tried) (chip (now (image .exit)) (now (lives .exit))) ≡ view (putPointer p slot a (chip (now (image .entry)) (now (lives .entry)))) ⌝ }
 {
     let at = p.map + offset_of(slot);
@@ -118,7 +119,7 @@ fn try_spares(image: &mut [u8], lives: &mut [u32], slot: usize, gap: Gap, byte: 
 
 // A byte moved to a spare of a slot's kind.
 fn move_slot(image: &mut [u8], lives: &mut [u32], p: Places, slot: usize, byte: u8) -> Stored
-    requires { ⌜ (fitted two p (chip (now image) (now lives)) ≡ true) × (sound two p (pointerOf (mapIn two p (now image))) ≡ true) × (slot < 16) ⌝ }
+    requires { ⌜ (fitted two p (chip (now image) (now lives)) ≡ true) × (sound two p (pointerOf (mapIn two p (now image))) ≡ true) × (slot < slots two) ⌝ }
     ensures { λ r. ⌜ seen (r .work) (r .writes) (r .tried) (chip (now (image .exit)) (now (lives .exit))) ≡ view (moveSlot two p slot byte (chip (now (image .entry)) (now (lives .entry)))) ⌝ }
 {
     let gap = gap_of(Map::at(p.map).cells(image), p);
@@ -266,7 +267,7 @@ fn store_pair(image: &mut [u8], lives: &mut [u32], p: Places, nibble: usize, byt
 
 // The next count stored where all slots hold a count's codes: one nibble changes, in each copy.
 pub(crate) fn store_next(image: &mut [u8], lives: &mut [u32], p: Places, count: u32) -> Stored
-    requires { ⌜ (fitted two p (chip (now image) (now lives)) ≡ true) × (sound two p (pointerOf (mapIn two p (now image))) ≡ true) × (count < 4294967295) × (Holds two p count (now image)) ⌝ }
+    requires { ⌜ (fitted two p (chip (now image) (now lives)) ≡ true) × (sound two p (pointerOf (mapIn two p (now image))) ≡ true) × (count < lastCount) × (Holds two p count (now image)) ⌝ }
     ensures { λ r. ⌜ seen (r .work) (r .writes) (r .tried) (chip (now (image .exit)) (now (lives .exit))) ≡ view (store two p (count + 1) (chip (now (image .entry)) (now (lives .entry)))) ⌝ }
 {
     let next = count + 1;

@@ -2,13 +2,7 @@
 use Prim.Native.Nat.{ℕ}
 use mathlib.Core.List.{List, [], _∷_, _++_}
 use Rattle.text.specs.Text.{decimal, signed, line}
-use Rattle.counter.specs.declared.places.Places.{Places}
-use Rattle.counter.specs.Places.{places}
 use Rattle.counter.specs.declared.verdict.Answer.{Answer}
-
--- setting A: map place 1, area 25 to 128
-abbrev pub settingA : Places
-settingA = places 1 25 128
 
 -- the keys: code, count, lag and place
 abbrev pub codeKey : List ℕ

@@ -6,10 +6,10 @@ ghost use Rattle.text.specs.Text.{Wrote};
 ghost use Rattle.look.specs.Look.{longest, lookText};
 
 // How long the lines of an answer are at most.
-pub const LONGEST: usize = 85;
+pub(crate) const LONGEST: usize = 85;
 
 // Writes an answer's lines at the start of a text, and answers how long they are.
-pub fn fill(answer: Answer, text: &mut [u8]) -> usize
+pub(crate) fn fill(answer: Answer, text: &mut [u8]) -> usize
     requires { ⌜ longest ≤ length (now text) ⌝ }
     ensures { λ r. ⌜ Wrote (now (text .entry)) 0 (lookText answer) r (now (text .exit)) ⌝ }
 {

@@ -7,9 +7,10 @@ use libc::STDOUT_FILENO;
 ghost use Prim.Native.Nat.{_≤_};
 ghost use lib.ListN.{length};
 ghost use Rattle.counter.specs.Layout.{two};
+ghost use Rattle.counter.specs.Places.{settingA};
 ghost use Rattle.counter.specs.Doors.{readOf};
 ghost use Rattle.text.specs.Text.{Wrote};
-ghost use Rattle.look.specs.Look.{longest, lookText, settingA};
+ghost use Rattle.look.specs.Look.{longest, lookText};
 
 // Setting A: the map's place, the area's first and last cell.
 const MAP: usize = 1;

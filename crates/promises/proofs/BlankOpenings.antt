@@ -25,9 +25,9 @@ use Rattle.cells.proofs.AskedOnce.{asked-outside, Once, once-append}
 use Rattle.counter.specs.Layout.{Layout, slots}
 use Rattle.counter.proofs.MapBytes.{map-byte, mark-none}
 use Rattle.counter.proofs.Ready.{pointers, Ready, InMap, ready-placed, ready-kept, inside-cell, apart-map}
-use Rattle.counter.proofs.Takes.{InGap, AllTaken, Takes, take-laws}
+use Rattle.counter.proofs.Takes.{InGap, AllTaken, TakeLaws, take-laws}
 use Rattle.counter.proofs.WorkSteps.{opening-on}
-use Rattle.counter.proofs.Openings.{whole-inside, opening-laws, Maps, maps-laws}
+use Rattle.counter.proofs.Openings.{whole-inside, opening-laws, MapLaws, maps-laws}
 use Rattle.counter.proofs.Exact.{Exact, exact-opened}
 use Rattle.counter.proofs.DoorViews.{ready-unopened, open-first}
 use Rattle.promises.proofs.CalmTakes.{roomy-whole, CalmTake, calm-take}
@@ -74,7 +74,7 @@ module _ {layout : Layout} {p : Places} {s : Chip} (fresh : BlankAlive layout p 
         other = λ c i e. let h = fresh .blank c (inside c i) in omega (arith, code-zero);
       })
 
-  takes : Takes (slots layout) 0 (wholeArea p) s taking
+  takes : TakeLaws (slots layout) 0 (wholeArea p) s taking
   takes = take-laws (slots layout) 0 (wholeArea p) s (fresh .ready .paired)
 
   all : AllTaken (slots layout) 0 (wholeArea p) taking
@@ -97,7 +97,7 @@ module _ {layout : Layout} {p : Places} {s : Chip} (fresh : BlankAlive layout p 
       rw (within-kept (takes .within) .life c (λ i. apart-map (fresh .ready) (record { from = omega arith; to = to }) (whole-inside p c i)))
       (fresh .alive c (omega arith)))
 
-  maps : Maps layout p (taking .answer .addresses) (taking .after) mapping
+  maps : MapLaws layout p (taking .answer .addresses) (taking .after) mapping
   maps = maps-laws ready-taken (taking .answer .addresses) (all .many)
 
   -- ## Both

@@ -28,7 +28,7 @@ use Rattle.counter.proofs.Ready.{Ready, InMap, ready-kept}
 use Rattle.counter.proofs.Pointers.{done-mapped}
 use Rattle.counter.proofs.PointerRows.{mapRow, pointers-row, mark-row, row-length}
 use Rattle.counter.proofs.Stores.{done-then}
-use Rattle.counter.proofs.Openings.{Points, points-laws, maps-laws}
+use Rattle.counter.proofs.Openings.{PointsLaws, points-laws, maps-laws}
 
 pub record Calmly (Place : ℕ → Type 0) (r : Run Work) : Type 0 where
   pub done : r .answer ≡ Done
@@ -68,7 +68,7 @@ module _ {layout : Layout} {p : Places} {s : Chip} (ready : Ready layout p s) (a
   points-calm : Calmly (Behind (offsetOf 0) p) pointing
   points-calm = calm-points addresses 0 s ready (omega arith) (λ c from to. live c (omega arith) to)
 
-  points : Points layout p addresses 0 s pointing
+  points : PointsLaws layout p addresses 0 s pointing
   points = points-laws layout p addresses 0 s ready (omega arith)
 
   -- the mark's cells are in front of all pointers

@@ -29,7 +29,7 @@ use Rattle.cells.proofs.AskedOnce.{Once, once-none, once-append, asked-outside}
 use Rattle.counter.specs.Layout.{Layout, slots}
 use Rattle.counter.proofs.Settings.{Placed}
 use Rattle.counter.proofs.Gaps.{Free}
-use Rattle.counter.proofs.Takes.{InGap, Takes, narrow-inside, narrow-other, take-landing, take-laws}
+use Rattle.counter.proofs.Takes.{InGap, TakeLaws, narrow-inside, narrow-other, take-landing, take-laws}
 use Rattle.counter.proofs.NextSpares.{Next, next-free, low-next, high-next, spares-written}
 use Rattle.counter.proofs.WorkSteps.{whole-gap, take-none}
 
@@ -124,7 +124,7 @@ module _ (n k : ℕ) (g : Gap) (s : Chip) (untouched : Untouched g s) (next : Ne
   take-is = take-landing n k g s a (ap (λ (r : Run Found). r .answer) spares-are) ∙ rw spares-are
 
   module _ (calm : CalmTake n rest) where
-    takes : Takes n (k + 1) left t rest
+    takes : TakeLaws n (k + 1) left t rest
     takes = take-laws n (k + 1) left t (left-untouched .paired)
 
     -- the rest is asked of other cells

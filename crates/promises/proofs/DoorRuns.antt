@@ -23,14 +23,14 @@ use Rattle.counter.specs.Layout.{Layout}
 use Rattle.counter.specs.Verdict.{onGood, ending, _endingIn_, _andThen_}
 use Rattle.counter.specs.Store.{store}
 use Rattle.counter.specs.Opening.{firstOpening}
-use Rattle.counter.specs.Doors.{lastCount, chipVerdict, unopened, openRun, stepRun}
+use Rattle.counter.specs.Doors.{lastCount, chipVerdict, openRun, stepRun}
 use Rattle.counter.proofs.Ready.{Ready, Own}
 use Rattle.counter.proofs.Moves.{not-done, Ended, Ended.done, Ended.roomless, Ended.unmapped}
 use Rattle.counter.proofs.Stores.{store-laws, done-then, stopped-then}
 use Rattle.counter.proofs.Openings.{opening-laws}
 use Rattle.counter.proofs.Exact.{Exact, exact-stored, exact-opened}
 use Rattle.counter.proofs.GoodVerdicts.{VerdictGood, verdict-good}
-use Rattle.counter.proofs.DoorViews.{unopened-ready, open-first, open-again, step-refused, step-last, step-on}
+use Rattle.counter.proofs.DoorViews.{unopened, unopened-ready, open-first, open-again, step-refused, step-last, step-on}
 
 pub data Comes (layout : Layout) (p : Places) (s : Chip) (r : Run Verdict) : Type 0 where
   untouched : (why : Refusal) → r ≡ still (Refused why) s → Comes layout p s r

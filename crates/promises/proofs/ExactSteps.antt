@@ -30,7 +30,7 @@ use Rattle.counter.specs.Store.{slotCode, store}
 use Rattle.counter.specs.Doors.{lastCount, stepRun}
 use Rattle.counter.proofs.Ready.{pointers, dataOf}
 use Rattle.counter.proofs.Moves.{roomOf}
-use Rattle.counter.proofs.Stores.{changes, changes-same, Stores, store-laws}
+use Rattle.counter.proofs.Stores.{changes, changes-same, StoreLaws, store-laws}
 use Rattle.counter.proofs.Exact.{Exact, exact-stored, exact-verdict, exact-still}
 use Rattle.counter.proofs.GoodVerdicts.{not-good}
 use Rattle.counter.proofs.DoorViews.{step-on}
@@ -130,7 +130,7 @@ module _ {layout : Layout} {p : Places} {c : ℕ} {s : Chip} (one : 1 ≤ layout
       after : _≡_ {A = Run Verdict} ((still Done s andThen store layout p (c + 1)) endingIn Good (c + 1) (pos 0)) (store layout p (c + 1) s endingIn Good (c + 1) (pos 0))
       after = rw zero-add
 
-  laws : Stores layout p (slots layout) 0 (c + 1) s next
+  laws : StoreLaws layout p (slots layout) 0 (c + 1) s next
   laws = store-laws layout p (c + 1) s (exact .ready) (exact .sound)
 
   cost : changes (slots layout) 0 (dataOf layout p s) (slotCode (c + 1)) ≡ layout .copies

@@ -1,5 +1,4 @@
 pub mod Bench
-pub mod NoSecond
 pub mod DoorRuns
 pub mod Untouched
 pub mod OwnCells

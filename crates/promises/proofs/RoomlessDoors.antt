@@ -22,12 +22,12 @@ use Rattle.counter.specs.declared.verdict.Verdict.the-variants.{Good, Refused}
 use Rattle.counter.specs.Layout.{Layout, slots}
 use Rattle.counter.specs.Verdict.{Outcome, ending, _andThen_}
 use Rattle.counter.specs.Store.{store}
-use Rattle.counter.specs.Doors.{lastCount, chipVerdict, unopened, openRun, stepRun, openOf, stepOf}
+use Rattle.counter.specs.Doors.{lastCount, chipVerdict, openRun, stepRun, openOf, stepOf}
 use Rattle.counter.proofs.Ready.{ready-kept}
 use Rattle.counter.proofs.Moves.{Ended, Ended.done, Ended.roomless, Ended.unmapped}
-use Rattle.counter.proofs.Stores.{Stores, store-laws, done-then, stopped-then}
+use Rattle.counter.proofs.Stores.{StoreLaws, store-laws, done-then, stopped-then}
 use Rattle.counter.proofs.DoorAnswers.{code-eight, spareless-code, spareless-place, open-is, step-is}
-use Rattle.counter.proofs.DoorViews.{unopened-ready, open-first, open-again, reopening-refused, reopening-good, step-refused, step-last, step-on}
+use Rattle.counter.proofs.DoorViews.{unopened, unopened-ready, open-first, open-again, settling-refused, settling-good, step-refused, step-last, step-on}
 use Rattle.counter.proofs.GoodVerdicts.{VerdictGood, verdict-good, verdict-room}
 use Rattle.promises.proofs.RoomlessStores.{StoreFull, store-roomless}
 use Rattle.promises.proofs.RoomlessOpenings.{OpeningFull, opening-roomless}
@@ -61,7 +61,7 @@ module _ {layout : Layout} {p : Places} {c : ℕ} {s : Chip} (v : VerdictGood la
   abbrev stepped : Chip → Run Work
   stepped = store layout p (c + 1)
 
-  laws : Stores layout p (slots layout) 0 c s settled
+  laws : StoreLaws layout p (slots layout) 0 c s settled
   laws = store-laws layout p c s (v .ready) (v .sound)
 
   once : (settled .answer ≡ Stopped (NoSpare k)) ↔ StoreFull layout p c k s
@@ -128,10 +128,10 @@ module _ (layout : Layout) (p : Places) (s : Chip) (k : ℕ) where
     where
       read : (v : Verdict) → chipVerdict layout p s ≡ v → OpenFull layout p s k
       read (Refused why) h =
-          let run = open-again layout p s q ∙ reopening-refused layout p s why h in
+          let run = open-again layout p s q ∙ settling-refused layout p s _ why h in
           absurd (verdict-room {k = k} layout p s (h ∙ sym (ap (λ (r : Run Verdict). r .answer) run) ∙ e))
       read (Good c lag) h =
-          let run = open-again layout p s q ∙ reopening-good layout p s c lag h in
+          let run = open-again layout p s q ∙ settling-good layout p s _ c lag h in
           let v = verdict-good layout p s h .1 in
           let stops = ending-stopped k c lag _ (sym (ap (λ (r : Run Verdict). r .answer) run) ∙ e) in
           again q c lag h (store-roomless layout p c s k (v .ready) (v .sound) .0 stops)
@@ -141,7 +141,7 @@ module _ (layout : Layout) (p : Places) (s : Chip) (k : ℕ) where
       ap (λ (r : Run Verdict). r .answer) (open-first layout p s q) ∙ ap (ending (Good 0 (pos 0))) (opening-roomless (unopened-ready layout p s q) k .1 f)
   open-ends (again q c lag h f) =
       let v = verdict-good layout p s h .1 in
-      ap (λ (r : Run Verdict). r .answer) (open-again layout p s q ∙ reopening-good layout p s c lag h)
+      ap (λ (r : Run Verdict). r .answer) (open-again layout p s q ∙ settling-good layout p s _ c lag h)
       ∙ ap (ending (Good c lag)) (store-roomless layout p c s k (v .ready) (v .sound) .1 f)
 
   pub open-roomless : Roomless k (openOf layout p s) ↔ OpenFull layout p s k

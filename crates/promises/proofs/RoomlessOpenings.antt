@@ -32,7 +32,7 @@ use Rattle.counter.proofs.Gaps.{Between, between-none, between-more, Spare, spa
 use Rattle.counter.proofs.Ready.{Ready, ready-kept}
 use Rattle.counter.proofs.Tries.{Landing, Trying, Trying.missing, Trying.landing, try-laws}
 use Rattle.counter.proofs.Moves.{not-done, Ended.done, Ended.roomless, Ended.unmapped}
-use Rattle.counter.proofs.Takes.{Takes, take-landing, take-missing, take-laws}
+use Rattle.counter.proofs.Takes.{TakeLaws, take-landing, take-missing, take-laws}
 use Rattle.counter.proofs.WorkSteps.{take-none, opening-on, opening-ends}
 use Rattle.counter.proofs.Openings.{MapEnded, MapEnded.put, MapEnded.failed, maps-laws}
 use Rattle.promises.proofs.Room.{take-roomless}
@@ -146,7 +146,7 @@ module _ {layout : Layout} {p : Places} {s : Chip} (ready : Ready layout p s) wh
   abbrev mapping : Chip → Run Work
   mapping t = putPointers (taking .answer .addresses) 0 p t andThen putMark p
 
-  takes : Takes (slots layout) 0 (wholeArea p) s taking
+  takes : TakeLaws (slots layout) 0 (wholeArea p) s taking
   takes = take-laws (slots layout) 0 (wholeArea p) s (ready .paired)
 
   -- an opening that found no spare ended its taking so

@@ -20,7 +20,7 @@ use Rattle.counter.specs.Store.{slotCode, storeSlot, storeFrom, store}
 use Rattle.counter.proofs.SoundPointers.{Sound}
 use Rattle.counter.proofs.Ready.{pointers, dataOf, Ready, ready-kept}
 use Rattle.counter.proofs.Tries.{Trying.missing, Trying.landing}
-use Rattle.counter.proofs.Moves.{change, not-done, Ended, Ended.done, Ended.roomless, Ended.unmapped, Moves, slot-laws}
+use Rattle.counter.proofs.Moves.{change, not-done, Ended, Ended.done, Ended.roomless, Ended.unmapped, SlotLaws, slot-laws}
 use Rattle.counter.proofs.Stores.{done-then, stopped-then}
 use Rattle.counter.proofs.WorkSteps.{store-all, store-none, store-next}
 use Rattle.promises.proofs.Room.{Full, slot-only, slot-roomless}
@@ -48,7 +48,7 @@ module _ (layout : Layout) (p : Places) (c : ℕ) where
       r : Run Work
       r = storeSlot layout p k (slotCode c k) s
 
-      slot : Moves layout p k (slotCode c k) (change (dataOf layout p s k) (slotCode c k)) s r
+      slot : SlotLaws layout p k (slotCode c k) (change (dataOf layout p s k) (slotCode c k)) s r
       slot = slot-laws ready sound k (omega arith) (slotCode c k)
 
       -- a slot that stops would have stopped the slots before
@@ -99,7 +99,7 @@ module _ (layout : Layout) (p : Places) (c : ℕ) where
       stops : (r andThen rest) .answer ≡ Stopped (NoSpare j)
       stops = sym (ap (λ (w : Run Work). w .answer) (store-next layout p c n k s)) ∙ e
 
-      slot : Moves layout p k (slotCode c k) (change (dataOf layout p s k) (slotCode c k)) s r
+      slot : SlotLaws layout p k (slotCode c k) (change (dataOf layout p s k) (slotCode c k)) s r
       slot = slot-laws ready sound k (omega arith) (slotCode c k)
 
       Later : Type 0

@@ -6,20 +6,16 @@ use Rattle.code.specs.Codes.{codes, codeOf}
 use Rattle.cells.specs.Chip.{Chip, chip, writeAt}
 use Rattle.cells.specs.Put.{putAt}
 use Rattle.cells.specs.Row.{next, tryAt, walk, putRow}
-use Rattle.counter.specs.declared.places.Places.{Places}
 use Rattle.counter.specs.declared.verdict.Work.the-variants.{Done}
 use Rattle.counter.specs.Layout.{two}
 use Rattle.counter.specs.Slots.{kindOf}
-use Rattle.counter.specs.Places.{places, lengthGood, placesGood}
+use Rattle.counter.specs.Places.{settingA, lengthGood, placesGood}
 use Rattle.counter.specs.Map.{offsetIn, offsetOf, pointerBytes}
 use Rattle.counter.specs.Spares.{wholeArea, narrow, wayOf, nextOf, sparesOf}
 use Rattle.counter.specs.Store.{mapped, putPointer, trySpares}
 use Rattle.counter.specs.Opening.{takeFrom, putPointers, putMark, firstOpening}
 use Rattle.counter.proofs.Ready.{Ready}
 use Rattle.counter.proofs.Exact.{Exact, exact-opened}
-
-abbrev pub settingA : Places
-settingA = places 1 25 128
 
 -- every cell at FF, with 1000 good writes in each
 unfoldable pub blank : Chip

@@ -30,11 +30,11 @@ unfolding writesOf
 writes-none k = simp zero-div
 
 -- one more is a multiple of m, and then the quotient grows by one; or it is none, and the quotient stays
-data Next (c m : ℕ) : Type 0 where
-  grows : (c + 1) % m ≡ 0 → (c + 1) / m ≡ c / m + 1 → Next c m
-  stays : ((c + 1) % m ≡ 0 → ⊥) → (c + 1) / m ≡ c / m → Next c m
+data Quotient (c m : ℕ) : Type 0 where
+  grows : (c + 1) % m ≡ 0 → (c + 1) / m ≡ c / m + 1 → Quotient c m
+  stays : ((c + 1) % m ≡ 0 → ⊥) → (c + 1) / m ≡ c / m → Quotient c m
 
-next : (c m : ℕ) → 0 < m → Next c m
+next : (c m : ℕ) → 0 < m → Quotient c m
 next c m positive = go (ℕ-discrete (c % m + 1) m)
   where
     small : c % m < m
@@ -43,7 +43,7 @@ next c m positive = go (ℕ-discrete (c % m + 1) m)
     whole : c / m * m + c % m ≡ c
     whole = div-add-mod' c m
 
-    go : Dec (c % m + 1 ≡ m) → Next c m
+    go : Dec (c % m + 1 ≡ m) → Quotient c m
     go (yes e) =
         let sum : c + 1 ≡ (c / m + 1) * m + 0 = omega (arith, whole, add-mul (c / m) 1 m, one-mul m) in
         grows (rw sum (digits-mod (c / m + 1) positive)) (rw sum (digits-div (c / m + 1) positive))
@@ -72,14 +72,14 @@ module _ (c : ℕ) (small : c + 1 < 2 ^ 32) (k : ℕ) where
   next-whole : (c + 1) % 16 ^ k ≡ 0 → (c + 1) % 16 ^ (k + 1) ≡ 0 → (c + 1) / 16 ^ k % 16 ≡ 0
   next-whole z e = factor-zero _ (sixteens-positive k) (let h = rest (c + 1) k in omega arith)
 
-  here : k ≡ changedNibble c → Next c (16 ^ k) → writesOf (c + 1) k ≡ 1 + writesOf c k
+  here : k ≡ changedNibble c → Quotient c (16 ^ k) → writesOf (c + 1) k ≡ 1 + writesOf c k
   unfolding writesOf
   here e (stays d q) = absurd (d (step-nibble-divides c k small .0 e .0))
   here e (grows z q) =
       let odd : (c + 1) / 16 ^ k % 16 ≡ 0 → ⊥ = λ o. step-nibble-divides c k small .0 e .1 (whole-next z o) in
       rw (quotient c k, quotient (c + 1) k) (omega arith)
 
-  elsewhere : (k ≡ changedNibble c → ⊥) → Next c (16 ^ k) → writesOf (c + 1) k ≡ writesOf c k
+  elsewhere : (k ≡ changedNibble c → ⊥) → Quotient c (16 ^ k) → writesOf (c + 1) k ≡ writesOf c k
   unfolding writesOf
   elsewhere d (stays e q) = rw (quotient c k, quotient (c + 1) k, q)
   elsewhere d (grows z q) = go (ℕ-discrete ((c + 1) % 16 ^ (k + 1)) 0)

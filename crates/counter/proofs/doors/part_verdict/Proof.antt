@@ -1,4 +1,5 @@
 -- `doors::part_verdict` meets its contract.
+use mathlib.Core.Bool.{false≢true}
 use mathlib.Core.Path.{_≡_, sym, _∙_}
 use borrow.Author.Tests.{le-leb, lt-leb, not-true, not-false}
 use borrow.Author.Needs.{needs}
@@ -7,7 +8,6 @@ use Rattle.counter.specs.Layout.{two}
 use Rattle.counter.specs.Map.{mapIn, pointerOf, sound}
 use Rattle.counter.specs.Doors.{partVerdict}
 use Rattle.counter.proofs.Settings.{good-placed, length-good}
-use Rattle.counter.proofs.RangeTests.{no-claim}
 use Rattle.counter.proofs.MapBytes.{map-whole}
 use Rattle.counter.proofs.Standings.{stands-marked, guard-marked}
 use Rattle.counter.proofs.doors.part_verdict.Statement.{statement}
@@ -28,7 +28,7 @@ plainly-sound-requires c κs =
     let facts = stands-marked two _ _ (c .before .before .before .pre) in
     let placed = good-placed two _ _ (facts .1) in
     let long = length-good two _ (facts .0) in
-    (rw (map c) (map-whole _ placed), omega arith, λ e. no-claim e)
+    (rw (map c) (map-whole _ placed), omega arith, λ e. absurd (false≢true e))
 
 -- what was tested of the map
 tested : (c : tie.After-plainly-sound) → let s = c .before .before .before .before .args in

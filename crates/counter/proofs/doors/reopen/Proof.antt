@@ -9,7 +9,7 @@ use Rattle.counter.specs.declared.verdict.Verdict.the-variants.{Good}
 use Rattle.counter.specs.Verdict.{outcome, outcomeOf, _endingIn_}
 use Rattle.counter.specs.Store.{store}
 use Rattle.counter.specs.Doors.{chipVerdict}
-use Rattle.counter.proofs.DoorViews.{outcome-ending, outcome-refused, chip-examined, good-settled, reopening-good, reopening-refused}
+use Rattle.counter.proofs.DoorViews.{outcome-ending, outcome-refused, chip-examined, good-settled, settling-good, settling-refused}
 use Rattle.counter.proofs.Standings.{stands-marked}
 use borrow.Author.Needs.{needs}
 use Rattle.counter.specs.Layout.{two}
@@ -61,17 +61,16 @@ returns c =
     ap (λ (a : Answer). outcome a (chip (stored .last .0) (stored .last .1 .0))) (c .finished .ensures)
     ∙ outcome-ending (store two _ count _) (stored .ensures) _
     ∙ ap (λ (z : ℤ). outcomeOf (store two (s .p) count (chip (s .image .now) (s .lives .now)) endingIn Good count z)) exact
-    ∙ ap outcomeOf (sym (reopening-good two _ _ count lag (good told)))
+    ∙ ap outcomeOf (sym (settling-good two _ _ _ count lag (sym (told .before .before .before .examined .ensures .0) ∙ told .before .verdict .given .1)))
 
 same-length-3 : tie.Need-same-length-3
 same-length-3 c = search needs
 
 returns-2 : tie.Need-returns-2
 returns-2 c =
-    let s = c .before .before .before .before .before .before .before .before in
-    let refused = chip-examined two _ _ (s .pre .0) (s .pre .1) ∙ sym (c .before .before .before .before .examined .ensures .0) ∙ c .before .before .verdict2 .given .1 in
-    ap (λ (a : Answer). outcome a (chip (s .args .image .now) (s .args .lives .now))) (c .refusal-of .ensures)
-    ∙ outcome-refused (reopening-refused two _ _ _ refused)
+    let s = c .before .before .before .before .before .before .before .before .args in
+    ap (λ (a : Answer). outcome a (chip (s .image .now) (s .lives .now))) (c .refusal-of .ensures)
+    ∙ outcome-refused (settling-refused two _ _ _ _ (sym (c .before .before .before .before .examined .ensures .0) ∙ c .before .before .verdict2 .given .1))
 
 pub reopen-spec : {M : Type 1} → statement M
 reopen-spec =

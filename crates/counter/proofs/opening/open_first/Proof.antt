@@ -4,7 +4,7 @@ use borrow.Author.Needs.{needs}
 use native.Mathlib.Omega.{arith}
 use lib.ListN.{length, take, length-map}
 use Rattle.counter.proofs.Fitted.{fitted-ready, ready-fitted}
-use Rattle.counter.proofs.OpeningViews.{ready-same, served-some, served-all, taken-whole, taken-reach, taking-few, map-few, opening-roomless, opening-mapped}
+use Rattle.counter.proofs.OpeningViews.{ready-same, served-some, served-all, taken-whole, taken-reach, taking-few, map-few, opening-stopped, opening-mapped}
 use Rattle.counter.proofs.opening.open_first.Statement.{statement}
 use Rattle.counter.proofs.opening.open_first.Tie as tie
 
@@ -20,7 +20,7 @@ same-length-2 c = search needs
 returns : tie.Need-returns
 returns c =
     let ended = served-some _ (c .if1 .taken) in
-    sym (opening-roomless _ _ (c .before .before .before .before .before .before .take-addresses .ensures) (rw ended) ∙ rw ended)
+    sym (opening-stopped _ _ (c .before .before .before .before .before .before .take-addresses .ensures) (rw ended) ∙ rw ended)
 
 -- the array has its sixteen elements
 sixteen : (c : tie.After-take-addresses) → length (c .take-addresses .result .addresses) ≡ 16

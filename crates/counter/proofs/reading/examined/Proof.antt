@@ -1,4 +1,5 @@
 -- `reading::examined` meets its contract: sound pointers lie in the image.
+use mathlib.Core.Bool.{false≢true}
 use mathlib.Core.Path.{_≡_, sym, _∙_}
 use borrow.Author.Tests.{not-true, not-false}
 use native.Mathlib.Omega.{arith}
@@ -8,7 +9,6 @@ use Rattle.counter.specs.Reading.{examine}
 use Rattle.counter.proofs.Settings.{good-placed, length-good}
 use Rattle.counter.proofs.MapBytes.{map-whole}
 use Rattle.counter.proofs.SoundPointers.{test-sound}
-use Rattle.counter.proofs.RangeTests.{no-claim}
 use borrow.Author.Needs.{needs}
 use Rattle.counter.specs.Layout.{two}
 use Rattle.counter.proofs.reading.examined.Statement.{statement}
@@ -42,7 +42,7 @@ tested c = rw (← map (c .before)) (sym (c .is-sound .ensures))
 
 returns : tie.Need-returns
 unfolding examine
-returns c = (rw (tested (c .before) ∙ not-true _ (c .if1 .taken)), λ e. no-claim e)
+returns c = (rw (tested (c .before) ∙ not-true _ (c .if1 .taken)), λ e. absurd (false≢true e))
 
 found-in-requires : tie.Need-found-in-requires
 found-in-requires c κs =

@@ -1,4 +1,5 @@
 -- `reading::found_in` meets its contract: bytes that are the same codes in both copies hold their count exactly.
+use mathlib.Core.Bool.{false≢true}
 use Prim.Native.Nat.{ℕ, _^_, _<_}
 use mathlib.Core.Path.{_≡_, sym, ap, _∙_}
 use native.Mathlib.Omega.{arith}
@@ -8,7 +9,6 @@ use Rattle.counter.specs.Store.{slotCode}
 use Rattle.counter.proofs.ReadBack.{weigh-exact}
 use Rattle.counter.proofs.Weighed.{weigh-same}
 use Rattle.counter.proofs.PlainBytes.{plain-held}
-use Rattle.counter.proofs.RangeTests.{no-claim}
 use borrow.Author.Needs.{needs}
 use Rattle.counter.specs.Layout.{two}
 use Rattle.counter.proofs.reading.found_in.Statement.{statement}
@@ -40,7 +40,7 @@ weighed-requires : tie.Need-weighed-requires
 weighed-requires c κs = search needs
 
 returns-2 : tie.Need-returns-2
-returns-2 c = (c .weighed .ensures ∙ weigh-same _ _ (c .before .before .data-of .ensures), λ e. no-claim e)
+returns-2 c = (c .weighed .ensures ∙ weigh-same _ _ (c .before .before .data-of .ensures), λ e. absurd (false≢true e))
 
 pub found-in-spec : {M : Type 1} → statement M
 found-in-spec =

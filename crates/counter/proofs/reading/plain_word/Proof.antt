@@ -1,5 +1,6 @@
 -- `reading::plain_word` meets its contract: where nothing was apart and no entry above 15 was seen, the bytes passed are the codes of
 -- the word's nibbles, the same in both copies.
+use mathlib.Core.Bool.{false≢true}
 use Prim.Native.Nat.{ℕ, _-_, _≤_, _<_}
 use mathlib.Core.Path.{_≡_, sym, ap, _∙_}
 use mathlib.Core.List.{List}
@@ -13,7 +14,6 @@ use Rattle.counter.specs.Reading.{dataAt}
 use Rattle.code.proofs.ReadingLaws.{entry-at, clean-code}
 use Rattle.counter.proofs.PlainBytes.{PlainTo, plain-more}
 use Rattle.counter.proofs.BitMarks.{or-left, or-right, xor-none}
-use Rattle.counter.proofs.RangeTests.{no-claim}
 use borrow.Author.Needs.{needs}
 use Rattle.counter.proofs.reading.plain_word.Statement.{statement}
 use Rattle.counter.proofs.reading.plain_word.Tie as tie
@@ -103,7 +103,7 @@ loop-again c =
     }
 
 returns : tie.Need-returns Inv-loop μ-loop
-returns c e = no-claim e
+returns c e = absurd (false≢true e)
 
 returns-2 : tie.Need-returns-2 Inv-loop μ-loop
 returns-2 c e n l = c .before .before .loop .inv .plain (c .if1 .left) (ltb-true _ _ e) .1 n (omega arith)

@@ -1,8 +1,8 @@
 -- `reading::verdict_of` meets its contract.
+use mathlib.Core.Bool.{false≢true}
 use mathlib.Core.Path.{sym, _∙_}
 use Rattle.counter.proofs.Standings.{stands-marked, guard-unfit, guard-unmarked, guard-marked}
 use Rattle.counter.specs.Reading.{verdictOf}
-use Rattle.counter.proofs.RangeTests.{no-claim}
 use borrow.Author.Needs.{needs}
 use Rattle.counter.specs.Layout.{two}
 use Rattle.counter.proofs.reading.verdict_of.Statement.{statement}
@@ -27,11 +27,11 @@ examined-requires c κs =
 
 returns : tie.Need-returns
 unfolding verdictOf
-returns c = (sym (guard-unfit two _ _ _ (sym (c .before .before .before .standing-of .ensures) ∙ c .before .standing .given .1)), λ e. no-claim e)
+returns c = (sym (guard-unfit two _ _ _ (sym (c .before .before .before .standing-of .ensures) ∙ c .before .standing .given .1)), λ e. absurd (false≢true e))
 
 returns-2 : tie.Need-returns-2
 unfolding verdictOf
-returns-2 c = (sym (guard-unmarked two _ _ _ (sym (c .before .before .standing-of .ensures) ∙ c .enum-told .given .1)), λ e. no-claim e)
+returns-2 c = (sym (guard-unmarked two _ _ _ (sym (c .before .before .standing-of .ensures) ∙ c .enum-told .given .1)), λ e. absurd (false≢true e))
 
 returns-3 : tie.Need-returns-3
 unfolding verdictOf

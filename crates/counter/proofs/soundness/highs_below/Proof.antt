@@ -1,9 +1,9 @@
 -- `soundness::highs_below` meets its contract: the High pointers passed are in the area and below the border.
+use mathlib.Core.Bool.{false≢true}
 use Prim.Native.Nat.{ℕ, _+_, _-_, _≤_, _<_}
 use native.Mathlib.Omega.{arith}
 use borrow.Author.Count.{below-more}
 use Rattle.counter.specs.Map.{pointerOf}
-use Rattle.counter.proofs.RangeTests.{no-claim}
 use borrow.Author.Needs.{needs}
 use borrow.Author.Tests.{not-false}
 use Rattle.counter.proofs.soundness.highs_below.Statement.{statement}
@@ -21,7 +21,7 @@ abbrev μ-loop : tie.MeasureT-loop
 μ-loop map p border n₀ n = 8 - n
 
 returns : tie.Need-returns Inv-loop μ-loop
-returns c = λ e. no-claim e
+returns c = λ e. absurd (false≢true e)
 
 loop-holds : tie.Need-loop-holds Inv-loop μ-loop
 loop-holds c = record { least = omega arith; most = omega arith; each = λ k l m. absurd (omega arith) }
@@ -33,7 +33,7 @@ is-between-requires : tie.Need-is-between-requires Inv-loop μ-loop
 is-between-requires c κs = search needs
 
 returns-2 : tie.Need-returns-2 Inv-loop μ-loop
-returns-2 c = λ e. no-claim e
+returns-2 c = λ e. absurd (false≢true e)
 
 add-pointer-of : tie.Need-add-pointer-of Inv-loop μ-loop
 add-pointer-of c = search needs
@@ -45,7 +45,7 @@ is-between-requires-2 : tie.Need-is-between-requires-2 Inv-loop μ-loop
 is-between-requires-2 c κs = search needs
 
 returns-3 : tie.Need-returns-3 Inv-loop μ-loop
-returns-3 c = λ e. no-claim e
+returns-3 c = λ e. absurd (false≢true e)
 
 add-n : tie.Need-add-n Inv-loop μ-loop
 add-n c = search needs

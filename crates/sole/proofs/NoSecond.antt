@@ -11,7 +11,7 @@ use prog.Memory.{Memory}
 use prog.Routine.{Routine}
 use prog.Wp.{Heap}
 use denote.Ref.{now, ptr}
-use Rattle.promises.specs.Sole.{Sole, left, handed, filled}
+use Rattle.sole.specs.Sole.{Sole, left, handed, filled}
 use Rattle.code.proofs.codes.code_of
 use Rattle.code.proofs.codes.distance_of
 use Rattle.code.proofs.gray.gray_of
