@@ -246,15 +246,15 @@ fn store_pair(image: &mut [u8], lives: &mut [u32], p: Places, nibble: usize, byt
     let cells = cells_of(image, p, nibble);
     let one = cells.one;
     let other = cells.other;
-    let done = put(image, lives, one, byte);
-    if done.held {
+    let taken = put(image, lives, one, byte);
+    if taken.held {
         return behind(
-            done.writes,
+            taken.writes,
             0,
             store_at(image, lives, p, 8 + nibble, other, byte),
         );
     }
-    let first = behind(done.writes, 0, move_slot(image, lives, p, nibble, byte));
+    let first = behind(taken.writes, 0, move_slot(image, lives, p, nibble, byte));
     if is_stopped(first) {
         return first;
     }

@@ -1,6 +1,6 @@
 -- Steps one after another.
 --   steps-next                the first step, and the others if it was good
---   Made, steps-made          they were all made, or the last one made was refused; those before it were good
+--   Made, steps-made          their answers and chips are those of `stepOf`, one after another, up to the first refused one
 --   steps-within              they write cells of map and area alone, and change nothing else
 use Prim.Native.Nat.{ℕ, zero, suc, _≤_}
 use mathlib.Core.Path.{_≡_, refl, ap}
@@ -15,7 +15,7 @@ use Rattle.counter.specs.declared.verdict.Verdict.{Verdict}
 use Rattle.counter.specs.declared.verdict.Verdict.the-variants.{Good, Refused}
 use Rattle.counter.specs.Layout.{Layout}
 use Rattle.counter.specs.Verdict.{outcomeOf}
-use Rattle.counter.specs.Doors.{stepRun}
+use Rattle.counter.specs.Doors.{stepRun, stepOf}
 use Rattle.promises.specs.Runs.{onward, stepsUpTo}
 use Rattle.counter.proofs.Ready.{Own}
 use Rattle.counter.proofs.DoorAnswers.{good-says, refused-code}
@@ -28,24 +28,29 @@ pub steps-next :
 unfolding stepsUpTo
 steps-next n layout p s e = rw e
 
--- at most n answers, each good but perhaps the last; fewer only where that one is a refusal
-pub data Made : ℕ → List Answer → Type 0 where
-  all : Made 0 []
-  good : {n : ℕ} {a : Answer} {rest : List Answer} → a .code ≡ 0 → Made n rest → Made (suc n) (a ∷ rest)
-  refused : {n : ℕ} {a : Answer} → 1 ≤ a .code → Made (suc n) (a ∷ [])
+-- at most n steps of `stepOf` from one chip to another, with what each answered: each good but perhaps the last, and fewer than n only
+-- where that one is a refusal
+pub data Made (layout : Layout) (p : Places) : ℕ → Chip → List Answer → Chip → Type 0 where
+  all : {s : Chip} → Made layout p 0 s [] s
+  good :
+      {n : ℕ} {s t : Chip} {rest : List Answer} → stepOf layout p s .says .code ≡ 0
+      → Made layout p n (stepOf layout p s .leaves) rest t → Made layout p (suc n) s (stepOf layout p s .says ∷ rest) t
+  refused : {n : ℕ} {s : Chip} → 1 ≤ stepOf layout p s .says .code → Made layout p (suc n) s (stepOf layout p s .says ∷ []) (stepOf layout p s .leaves)
 
-onward-made :
-    {n : ℕ} (v : Verdict) (r : Run Verdict) (rest : Run (List Answer)) → r .answer ≡ v → Made n (rest .answer)
-    → Made (suc n) (onward v r rest .answer)
-onward-made (Good c lag) r rest e made = good {a = outcomeOf r .says} (ap (λ (a : Answer). a .code) (good-says r e)) made
-onward-made (Refused why) r rest e made = refused {a = outcomeOf r .says} (refused-code r e)
-
-pub steps-made : (n : ℕ) (layout : Layout) (p : Places) (s : Chip) → Made n (stepsUpTo n layout p s .answer)
-unfolding stepsUpTo
+pub steps-made : (n : ℕ) (layout : Layout) (p : Places) (s : Chip) → Made layout p n s (stepsUpTo n layout p s .answer) (stepsUpTo n layout p s .after)
+unfolding stepsUpTo stepOf
 steps-made zero layout p s = all
-steps-made (suc n) layout p s =
-    let r = stepRun layout p s in
-    onward-made (r .answer) r (stepsUpTo n layout p (r .after)) refl (steps-made n layout p (r .after))
+steps-made (suc n) layout p s = go (r .answer) refl (steps-made n layout p (r .after))
+  where
+    r : Run Verdict
+    r = stepRun layout p s
+
+    rest : Run (List Answer)
+    rest = stepsUpTo n layout p (r .after)
+
+    go : (v : Verdict) → r .answer ≡ v → Made layout p n (r .after) (rest .answer) (rest .after) → Made layout p (suc n) s (onward v r rest .answer) (onward v r rest .after)
+    go (Good c lag) e made = good (ap (λ (a : Answer). a .code) (good-says r e)) made
+    go (Refused why) e made = refused (refused-code r e)
 
 -- a step and the others, or that step alone
 onward-within :

@@ -1,6 +1,8 @@
--- From turns to cells and back (condition 2): after a good open or step a read gives its count, with lag 0; and a
--- step's count is one more than that of the read before it.
+-- From turns to cells and back (condition 2): a good open or step leaves every slot's cell with its code of the count that it
+-- answers, in a sound map behind its mark; a read then gives that count, with lag 0; and a step's count is one more than that of
+-- the read before it.
 --   run-exact                 a good call leaves its count exactly
+--   open-exact, step-exact    so do open and step, of the count that they answer
 --   StepGood, step-good       what a good step read, answered and left
 --   open-reads, step-reads    what is read then
 --   step-counts               the count of a good step, and its lag, from the read before it
@@ -43,26 +45,34 @@ read-exact :
     → readOf layout p (s .cells) ≡ answer 0 c (pos 0) 0 0 0
 read-exact {layout} {p} {c} {s} one small exact = read-good layout p (s .cells) (exact-reads exact one small)
 
--- what a good call says is its count
-run-reads :
-    {layout : Layout} {p : Places} {s : Chip} (r : Run Verdict) → 1 ≤ layout .copies → Comes layout p s r
-    → outcomeOf r .says .code ≡ 0
-    → readOf layout p (r .after .cells) ≡ answer 0 (outcomeOf r .says .count) (pos 0) 0 0 0
-run-reads r one comes e =
-    let g = code-good (r .answer) (length (r .log)) (r .tried) e in
-    let x = run-exact r comes (g .2) in
-    rw (good-says r (g .2)) (read-exact one (x .0) (x .1))
+-- what a call of code 0 leaves is the count that it says
+says-exact :
+    {layout : Layout} {p : Places} {s : Chip} (r : Run Verdict) → Comes layout p s r → outcomeOf r .says .code ≡ 0
+    → (outcomeOf r .says .count < 2 ^ 32) × Exact layout p (outcomeOf r .says .count) (r .after)
+says-exact r comes e = let g = code-good (r .answer) (length (r .log)) (r .tried) e in rw (good-says r (g .2)) (run-exact r comes (g .2))
 
 module _ (layout : Layout) (p : Places) (s : Chip) where
+  left-by-open : openOf layout p s .says .code ≡ 0 → (openOf layout p s .says .count < 2 ^ 32) × Exact layout p (openOf layout p s .says .count) (openOf layout p s .leaves)
+  left-by-open = rw (open-is layout p s) (says-exact (openRun layout p s) (open-laws layout p s .comes))
+
+  left-by-step : stepOf layout p s .says .code ≡ 0 → (stepOf layout p s .says .count < 2 ^ 32) × Exact layout p (stepOf layout p s .says .count) (stepOf layout p s .leaves)
+  left-by-step = rw (step-is layout p s) (says-exact (stepRun layout p s) (step-laws layout p s .comes))
+
+  pub open-exact : openOf layout p s .says .code ≡ 0 → Exact layout p (openOf layout p s .says .count) (openOf layout p s .leaves)
+  open-exact e = left-by-open e .1
+
+  pub step-exact : stepOf layout p s .says .code ≡ 0 → Exact layout p (stepOf layout p s .says .count) (stepOf layout p s .leaves)
+  step-exact e = left-by-step e .1
+
   pub open-reads :
       1 ≤ layout .copies → openOf layout p s .says .code ≡ 0
       → readOf layout p (openOf layout p s .leaves .cells) ≡ answer 0 (openOf layout p s .says .count) (pos 0) 0 0 0
-  open-reads one = rw (open-is layout p s) (run-reads (openRun layout p s) one (open-laws layout p s .comes))
+  open-reads one e = read-exact one (left-by-open e .0) (left-by-open e .1)
 
   pub step-reads :
       1 ≤ layout .copies → stepOf layout p s .says .code ≡ 0
       → readOf layout p (stepOf layout p s .leaves .cells) ≡ answer 0 (stepOf layout p s .says .count) (pos 0) 0 0 0
-  step-reads one = rw (step-is layout p s) (run-reads (stepRun layout p s) one (step-laws layout p s .comes))
+  step-reads one e = read-exact one (left-by-step e .0) (left-by-step e .1)
 
 -- what a good step read, answered and left
 pub record StepGood (layout : Layout) (p : Places) (s : Chip) : Type 0 where
