@@ -1,5 +1,5 @@
 -- The map: its mark, its pointers, and when it is sound (document 01, "The map"). A map is the list of its
--- cells; `byteAt` is the one place that knows how a byte is kept in it.
+-- cells. How a byte is kept in them is known to `byteAt`, for reading, and to `putPointer` (Store.antt) and `putMark` (Opening.antt).
 use Prim.Native.Nat.{ℕ, _+_, _*_, _/_, _%_}
 use mathlib.Core.Bool.{Bool, true, not, cond, _&&_}
 use mathlib.Core.List.{List, [], _∷_}
