@@ -43,7 +43,7 @@ esac
 root=$(cd "$(dirname "$0")/.." && pwd)
 work=$(mktemp -d)
 trap 'rm -rf "$work"' EXIT
-archive=$(readlink -f "${LYRE_ARCHIVE:-$root/target/staticlib/liblyre.a}")
+archive=$(readlink -m "${LYRE_ARCHIVE:-$root/target/staticlib/liblyre.a}")
 
 need_archive() {
     [ -f "$archive" ] || { echo "no archive at $archive (rt staticlib lyre makes it)" >&2; exit 2; }
