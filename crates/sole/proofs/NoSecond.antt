@@ -31,7 +31,6 @@ use Rattle.code.proofs.table.entries_of
 use Rattle.code.proofs.TabulateLaws.{alike}
 use Rattle.code.specs.Tabulate.{tabulate}
 use lib.ListN.{getD}
-use Rattle.cells.proofs.put.write
 use Rattle.cells.proofs.put.put
 use Rattle.cells.proofs.row.walk
 use Rattle.cells.proofs.row.put_row
@@ -131,9 +130,6 @@ module _ {M : Type 1} (𝓤 : URA M) where
 
     pub wide-one : Sole 𝓤 wide.ended (wide.clauses 𝓤 H A mem run) (λ κs r at. r)
     wide-one _ _ _ _ _ _ _ = both (λ one two. one .0 ∙ sym (two .0))
-
-    pub write-one : Sole 𝓤 write.ended (write.clauses 𝓤 H A mem run) (λ κs r at. left r (now (at .0)) (now (at .1 .0)))
-    write-one _ _ _ _ _ _ _ = same (λ v. left tt (v .cells) (v .lives))
 
     pub put-one : Sole 𝓤 put.ended (put.clauses 𝓤 H A mem run) (λ κs r at. left r (now (at .0)) (now (at .1 .0)))
     put-one _ _ _ _ _ _ _ = same (λ v. left (record { held = v .answer; writes = v .writes }) (v .after .cells) (v .after .lives))
