@@ -134,9 +134,9 @@ module _ {A : Type 0} {Place : ℕ → Type 0} where
   within-wider f i = record { logged = i .logged; places = every-wider f (i .places) }
 
   -- either of two pieces
-  pub within-pick : (t : Bool) {s : Chip} {x y : Run A} → Within Place s x → Within Place s y → Within Place s (cond t x y)
-  within-pick true i j = i
-  within-pick false i j = j
+  pub within-cond : (t : Bool) {s : Chip} {x y : Run A} → Within Place s x → Within Place s y → Within Place s (cond t x y)
+  within-cond true i j = i
+  within-cond false i j = j
 
   -- all else is kept
   pub within-kept : {s : Chip} {r : Run A} → Within Place s r → Kept Place s (r .after)

@@ -18,7 +18,7 @@ use Rattle.cells.specs.Put.{putAt}
 use Rattle.cells.specs.Row.{next, putRow, InRow}
 use Rattle.cells.proofs.Views.{view-then, said-answer}
 use Rattle.cells.proofs.Writes.{kept-paired}
-use Rattle.cells.proofs.Logs.{within-still, within-wider, within-pick, within-giving, within-then, within-kept}
+use Rattle.cells.proofs.Logs.{within-still, within-wider, within-cond, within-giving, within-then, within-kept}
 use Rattle.cells.proofs.Addresses.{in-first, in-longer}
 use Rattle.cells.proofs.Puts.{Refuses, put-there, put-within, put-cost, put-tried, put-held, put-laws}
 
@@ -78,7 +78,7 @@ unfolding putRow next
 row-within [] a s = within-still Nowhere s
 row-within (b ∷ bs) a s =
     let first : Within (InRow (suc (length bs)) Up a) s (putAt a b s) = within-wider (λ c e. rw e (in-first (length bs) Up a)) (put-within a b s) in
-    within-pick (putAt a b s .answer)
+    within-cond (putAt a b s .answer)
     (within-then first (within-wider (in-longer (length bs) Up a) (row-within bs (a + 1) (putAt a b s .after))))
     (within-giving (At a) first)
 

@@ -1,4 +1,5 @@
 -- Laws of a walk along a row of cells: what it keeps, what it changes, what it costs.
+--   asks-each                 each cell of a row is asked
 --   try-put                   a cell tried is a put, counted
 use Prim.Native.Nat.{ℕ, zero, suc, _+_, _-_, _≤_, _<_}
 use mathlib.Core.Path.{_≡_, refl, ap, _∙_}
@@ -14,11 +15,11 @@ use Rattle.cells.specs.declared.row.Found.{Found}
 use Rattle.cells.specs.declared.row.Found.the-variants.{At, Nowhere}
 use Rattle.cells.specs.Chip.{Chip, lifeAt, Paired, Kept}
 use Rattle.cells.specs.Run.{still, write, Run, run, Seen, seen, view, plus, _then_, _giving_}
-use Rattle.cells.specs.Log.{Within}
+use Rattle.cells.specs.Log.{askedOf, Within}
 use Rattle.cells.specs.Put.{putAt}
 use Rattle.cells.specs.Row.{next, nth, InRow, tryAt, walk, asks}
 use Rattle.cells.proofs.Views.{view-then, said-answer}
-use Rattle.cells.proofs.Logs.{within-still, within-wider, within-pick, within-giving, within-then, within-kept}
+use Rattle.cells.proofs.Logs.{asked-here, asked-append, within-still, within-wider, within-cond, within-giving, within-then, within-kept}
 use Rattle.cells.proofs.Addresses.{nth-zero, nth-next, nth-suc, in-first, in-longer}
 use Rattle.cells.proofs.Puts.{Refuses, put-within, put-cost, put-failed, put-laws}
 
@@ -64,6 +65,16 @@ pub asks-length : (n : ℕ) (way : Way) (a b : ℕ) → length (asks n way a b) 
 unfolding asks
 asks-length zero way a b = refl
 asks-length (suc n) way a b = ap suc (asks-length n way (next way a) b)
+
+-- each cell of the row is asked
+pub asks-each : (n : ℕ) (way : Way) (a b j : ℕ) → j < n → 1 ≤ askedOf (nth way a j) (asks n way a b)
+unfolding asks
+asks-each zero way a b j l = absurd (omega arith)
+asks-each (suc n) way a b zero l = rw nth-zero (let h = asked-here a a (write a b) (asks n way (next way a) b) (omega arith) (omega arith) in omega arith)
+asks-each (suc n) way a b (suc j) l =
+    let c = nth way (next way a) j in
+    let h = asks-each n way (next way a) b j (omega arith) in
+    rw (← nth-suc) (let h′ = asked-append c c (write a b ∷ []) (asks n way (next way a) b) in omega arith)
 
 -- the neighbour is the next cell of the row
 pub next-nth : (way : Way) (a : ℕ) → next way a ≡ nth way a 1
@@ -156,7 +167,7 @@ unfolding walk
 walk-within zero way a b s = within-still Nowhere s
 walk-within (suc n) way a b s =
     let rest = walk-within n way (next way a) b (tryAt a b s .after) in
-    within-pick (tryAt a b s .answer)
+    within-cond (tryAt a b s .answer)
     (within-giving (At a) (try-within n way a b s))
     (within-then (try-within n way a b s) (within-wider (in-longer n way a) rest))
 

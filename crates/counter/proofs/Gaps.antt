@@ -9,6 +9,7 @@
 --   spare-free, free-spare    the two are one
 --   OnFrom, free-may, may-free  and the same by the test `mayTry`, from the next address on
 --   walked-free, free-walked  a walk over the spares goes over just those
+--   spares-tried              from the next address on, just the first `sparesOf` cells may be tried
 --   spare-fresh               no pointer is a spare
 --   between-unique            a gap is all that its properties say
 --   between-moved             a pointer moved to a free cell narrows the gap by it
@@ -17,6 +18,7 @@
 use Prim.Native.Nat.{ℕ, zero, suc, _+_, _-_, _≤_, _<_, min, max}
 use mathlib.Core.Path.{_≡_, refl, sym, ap, _∙_}
 use mathlib.Core.Bool.{true, _&&_, true≢false}
+use mathlib.Core.Logic.{_↔_}
 use native.Mathlib.Decide.{ℕ-discrete}
 use native.Mathlib.Omega.{arith}
 use lib.Dec.{leb}
@@ -186,6 +188,16 @@ pub free-walked : (kind : Kind) (g : Gap) (a : ℕ) → Free kind g a → (j : �
 unfolding sparesOf wayOf nextOf
 free-walked High g a f = let h = f .from in let h′ = f .to in let h″ = f .reach refl in (a - g .high, omega arith, omega arith)
 free-walked Low g a f = let h = f .from in let h′ = f .to in (g .low - 1 - a, omega arith, omega arith)
+
+-- the j-th cell from the next address on may be tried exactly where j is below `sparesOf`
+pub spares-tried :
+    (kind : Kind) {n : ℕ} {p : Places} {pointer : ℕ → ℕ} {g : Gap} → 1 ≤ p .start → Between n p pointer g
+    → (j : ℕ) → (j < sparesOf kind g) ↔ (mayTry p kind g (nth (wayOf kind) (nextOf kind g) j) ≡ true)
+unfolding sparesOf wayOf nextOf OnFrom mayTry
+spares-tried High {p = p} {g = g} first b j =
+    (λ l. free-may High b (walked-free High g j l) .1, λ may. let f = may-free High p g (g .high + j) (omega arith) may in let reach = f .reach refl in omega arith)
+spares-tried Low {p = p} {g = g} first b j =
+    (λ l. free-may Low b (walked-free Low g j l) .1, λ may. let from = leb-true (g .high) _ (and-true (inArea p (g .low - 1 - j)) _ may .1) in omega arith)
 
 -- a gap is all that its properties say
 pub between-unique :

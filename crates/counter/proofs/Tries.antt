@@ -1,13 +1,15 @@
 -- Spares tried: what it keeps, what it changes, what it costs.
 --   room                      the cells between the pointers of the two kinds
 --   spares-room               the spares are no more than the room
---   Missing                   no spare holds: each refuses, and the chip is as it was
+--   askedSpares               the byte asked of each spare of a gap, in order
+--   Missing                   no spare holds: each was asked and refuses, and the chip is as it was
 --   Landing                   a spare holds: the chip is that one put from the start
 --   Trying, TryLaws, try-laws
 --   try-nowhere               no spare holds exactly where each refuses
 use Prim.Native.Nat.{ℕ, _+_, _-_, _≤_, _<_}
 use mathlib.Core.Path.{_≡_, sym, ap, _∙_}
 use mathlib.Core.Bool.{true≢false}
+use mathlib.Core.List.{List}
 use mathlib.Core.Logic.{_↔_}
 use native.Mathlib.Omega.{arith}
 use lib.ListN.{length, length-append}
@@ -15,9 +17,9 @@ use borrow.Author.Tests.{ne-eqb}
 use Rattle.cells.specs.declared.row.Found.{Found}
 use Rattle.cells.specs.declared.row.Found.the-variants.{At, Nowhere}
 use Rattle.cells.specs.Chip.{Chip, cellAt, Paired, Kept}
-use Rattle.cells.specs.Run.{Run}
+use Rattle.cells.specs.Run.{Write, Run, run}
 use Rattle.cells.specs.Log.{Within}
-use Rattle.cells.specs.Row.{nth, InRow}
+use Rattle.cells.specs.Row.{nth, InRow, asks}
 use Rattle.cells.proofs.Logs.{within-wider}
 use Rattle.cells.proofs.Puts.{Refuses, put-laws}
 use Rattle.cells.proofs.Walks.{Missed, Hit, Walking, Walking.missed, Walking.hit, walk-laws, asks-length}
@@ -32,10 +34,15 @@ use Rattle.counter.proofs.Gaps.{Free, walked-free, free-walked}
 abbrev pub room : Gap → ℕ
 room g = g .low - g .high
 
+-- the byte asked of each spare that a gap leaves for slot k, in order
+abbrev pub askedSpares : ℕ → Gap → ℕ → List Write
+askedSpares k g b = asks (sparesOf (kindOf k) g) (wayOf (kindOf k)) (nextOf (kindOf k) g) b
+
 pub record Missing (k : ℕ) (g : Gap) (b : ℕ) (s : Chip) : Type 0 where
   pub nowhere : trySpares k g b s .answer ≡ Nowhere
   pub same : trySpares k g b s .after ≡ s
   pub refused : (a : ℕ) → Free (kindOf k) g a → Refuses a b s
+  pub comes : trySpares k g b s ≡ run Nowhere (askedSpares k g b) (sparesOf (kindOf k) g) s
   pub cost : length (trySpares k g b s .log) ≤ room g
 
 pub record Landing (k : ℕ) (g : Gap) (b : ℕ) (s : Chip) : Type 0 where
@@ -99,6 +106,7 @@ module _ (k : ℕ) (g : Gap) (b : ℕ) (s : Chip) (paired : Paired s) where
         nowhere = ap (λ (r : Run Found). r .answer) (m .comes);
         same = ap (λ (r : Run Found). r .after) (m .comes);
         refused = λ a f. let j = free-walked (kindOf k) g a f in rw (j .2) at (m .refused (j .0) (j .1));
+        comes = m .comes;
         cost = let h = spares-room (kindOf k) g in rw (m .comes, asks-length) h;
       }
 

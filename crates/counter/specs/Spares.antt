@@ -31,12 +31,12 @@ unfoldable pub gapTo : ℕ → Places → (ℕ → ℕ) → Gap
 gapTo zero p pointer = wholeArea p
 gapTo (suc k) p pointer = narrow (kindOf k) (pointer k) (gapTo k p pointer)
 
--- what all pointers leave
+-- what all pointers leave: the address above the highest High one, and the lowest Low one (`between-map`, proofs/Gaps.antt)
 unfoldable pub gapOf : Layout → Places → (ℕ → ℕ) → Gap
 gapOf layout p pointer = gapTo (slots layout) p pointer
 
 -- a spare may be tried: it is in the area, a High one is at most 255 and below every Low pointer, a Low one is
--- above every High pointer. From the next address on these are as many as `sparesOf` says (proofs/Gaps.antt)
+-- above every High pointer
 unfoldable pub mayTry : Places → Kind → Gap → ℕ → Bool
 mayTry p High g a = inArea p a && leb a 255 && ltb a (g .low)
 mayTry p Low g a = inArea p a && leb (g .high) a
@@ -51,7 +51,7 @@ unfoldable pub nextOf : Kind → Gap → ℕ
 nextOf High g = g .high
 nextOf Low g = g .low - 1
 
--- how many cells from the next address on may be tried
+-- how many cells are tried from the next address on: just those of which `mayTry` holds (`spares-tried`, proofs/Gaps.antt)
 unfoldable pub sparesOf : Kind → Gap → ℕ
 sparesOf High g = min 256 (g .low) - g .high
 sparesOf Low g = g .low - g .high

@@ -1,7 +1,9 @@
 -- Refusal 8 of a door comes exactly where the turn of the slot that it names comes, and no cell takes that slot's byte (condition 2).
 --   Roomless                  a call is refused 8, and names the slot
 --   StepFull, step-roomless   a step
+--   StepAsked, step-tried     which has asked every one of those cells, at the end of its log
 --   OpenFull, open-roomless   an opening
+--   OpenAsked, open-tried     which has asked them too
 use Prim.Native.Nat.{ℕ, _+_}
 use mathlib.Core.Path.{_≡_, refl, sym, ap, _∙_}
 use mathlib.Core.Bool.{Bool, true, false, true≢false}
@@ -21,7 +23,7 @@ use Rattle.counter.specs.declared.verdict.Verdict.{Verdict}
 use Rattle.counter.specs.declared.verdict.Verdict.the-variants.{Good, Refused}
 use Rattle.counter.specs.Layout.{Layout, slots}
 use Rattle.counter.specs.Verdict.{Outcome, ending, _andThen_}
-use Rattle.counter.specs.Store.{store}
+use Rattle.counter.specs.Store.{slotCode, store}
 use Rattle.counter.specs.Doors.{lastCount, chipVerdict, openRun, stepRun, openOf, stepOf}
 use Rattle.counter.proofs.Ready.{ready-kept}
 use Rattle.counter.proofs.Moves.{Ended, Ended.done, Ended.roomless, Ended.unmapped}
@@ -29,8 +31,9 @@ use Rattle.counter.proofs.Stores.{StoreLaws, store-laws, done-then, stopped-the
 use Rattle.counter.proofs.DoorAnswers.{code-eight, spareless-code, spareless-place, open-is, step-is}
 use Rattle.counter.proofs.DoorViews.{unopened, unopened-ready, open-first, open-again, settling-refused, settling-good, step-refused, step-last, step-on}
 use Rattle.counter.proofs.GoodVerdicts.{VerdictGood, verdict-good, verdict-room}
-use Rattle.promises.proofs.RoomlessStores.{StoreFull, store-roomless}
-use Rattle.promises.proofs.RoomlessOpenings.{OpeningFull, opening-roomless}
+use Rattle.promises.proofs.Room.{Asked, asked-then, asked-giving}
+use Rattle.promises.proofs.RoomlessStores.{StoreFull, store-roomless, store-tried}
+use Rattle.promises.proofs.RoomlessOpenings.{takenTo, OpeningFull, opening-roomless, SparesAsked, spares-giving, opening-tried}
 
 -- refused 8, and the slot named
 abbrev pub Roomless : ℕ → Outcome → Type 0
@@ -53,6 +56,13 @@ pub record StepFull (layout : Layout) (p : Places) (s : Chip) (k : ℕ) : Type 0
   pub reads : chipVerdict layout p s ≡ Good count lag
   pub more : count ≡ lastCount → ⊥
   pub full : TwoFull layout p count k s
+
+-- and so it was found: the slot's byte of the count that was read, or of the next, was asked of its own cell and of every spare of its kind
+pub record StepAsked (layout : Layout) (p : Places) (s : Chip) (k : ℕ) : Type 0 where
+  pub full : StepFull layout p s k
+  pub stored : ℕ
+  pub either : (stored ≡ full .count) ⊎ (stored ≡ full .count + 1)
+  pub asked : Asked layout p k (slotCode stored k) (stepRun layout p s)
 
 module _ {layout : Layout} {p : Places} {c : ℕ} {s : Chip} (v : VerdictGood layout p c s) (k : ℕ) where
   abbrev settled : Run Work
@@ -87,6 +97,15 @@ module _ {layout : Layout} {p : Places} {c : ℕ} {s : Chip} (v : VerdictGood la
       always (inl full) = let q = once .1 full in answers (stopped-then settled stepped _ q) ∙ q
       always (inr (q, full)) = answers (done-then settled stepped q) ∙ once-more q .1 full
 
+  -- two stores that are stopped so have asked, in the first or in the second
+  two-tried : TwoFull layout p c k s → (d : ℕ) × ((d ≡ c) ⊎ (d ≡ c + 1)) × Asked layout p k (slotCode d k) (settled andThen stepped)
+  two-tried (inl full) =
+      let q = once .1 full in
+      (c, inl refl, rw (stopped-then settled stepped _ q) (store-tried layout p c s k (v .ready) (v .sound) q))
+  two-tried (inr (q, full)) =
+      let h = store-tried layout p (c + 1) (settled .after) k (ready-kept (v .ready) (within-kept (laws .within))) (laws .stored q .sound) (once-more q .1 full) in
+      (c + 1, inr refl, rw (done-then settled stepped q) (asked-then settled h))
+
 module _ (layout : Layout) (p : Places) (s : Chip) (k : ℕ) where
   step-only : stepRun layout p s .answer ≡ Refused (NoSpare k) → (v : Verdict) → chipVerdict layout p s ≡ v → StepFull layout p s k
   step-only e (Refused why) q =
@@ -112,12 +131,35 @@ module _ (layout : Layout) (p : Places) (s : Chip) (k : ℕ) where
         λ f. (spareless-code (stepRun layout p s) (step-ends f), spareless-place (stepRun layout p s) (step-ends f)),
       )
 
+  -- what such a step asks
+  step-asks : StepFull layout p s k → StepAsked layout p s k
+  step-asks f =
+      let two = two-tried (verdict-good layout p s (f .reads) .1) k (f .full) in
+      record {
+        full = f;
+        stored = two .0;
+        either = two .1;
+        asked = rw (step-on layout p s (f .count) (f .lag) (f .reads) (f .more)) (asked-giving _ (two .2));
+      }
+
+  -- a step is refused 8 only when every spare of the kind has been tried and has not taken the byte
+  pub step-tried : Roomless k (stepOf layout p s) → StepAsked layout p s k
+  step-tried e = step-asks (step-roomless .0 e)
+
 -- ## An opening
 
 -- in a first opening, or in the store of the count that was read
 pub data OpenFull (layout : Layout) (p : Places) (s : Chip) (k : ℕ) : Type 0 where
   first : unopened layout p s ≡ true → OpeningFull layout p k s → OpenFull layout p s k
   again : unopened layout p s ≡ false → (c : ℕ) (lag : ℤ) → chipVerdict layout p s ≡ Good c lag → StoreFull layout p c k s → OpenFull layout p s k
+
+-- and so it was found: the code of 0 was asked of every spare that the addresses taken so far leave, or the slot's byte of its own cell
+-- and of every spare of its kind
+pub data OpenAsked (layout : Layout) (p : Places) (s : Chip) (k : ℕ) : Type 0 where
+  first : unopened layout p s ≡ true → OpeningFull layout p k s → SparesAsked p k (takenTo p s k) (openRun layout p s) → OpenAsked layout p s k
+  again :
+      unopened layout p s ≡ false → (c : ℕ) (lag : ℤ) → chipVerdict layout p s ≡ Good c lag
+      → StoreFull layout p c k s → Asked layout p k (slotCode c k) (openRun layout p s) → OpenAsked layout p s k
 
 module _ (layout : Layout) (p : Places) (s : Chip) (k : ℕ) where
   open-only : openRun layout p s .answer ≡ Refused (NoSpare k) → (t : Bool) → unopened layout p s ≡ t → OpenFull layout p s k
@@ -150,3 +192,17 @@ module _ (layout : Layout) (p : Places) (s : Chip) (k : ℕ) where
         λ (e, at). open-only (code-eight (openRun layout p s .answer) (length (openRun layout p s .log)) (openRun layout p s .tried) e ∙ ap (λ (j : ℕ). Refused (NoSpare j)) at) (unopened layout p s) refl,
         λ f. (spareless-code (openRun layout p s) (open-ends f), spareless-place (openRun layout p s) (open-ends f)),
       )
+
+  -- what such an opening asks
+  open-asks : OpenFull layout p s k → OpenAsked layout p s k
+  open-asks (first q f) =
+      let ready = unopened-ready layout p s q in
+      first q f (rw (open-first layout p s q) (spares-giving _ _ (opening-tried ready k (opening-roomless ready k .1 f))))
+  open-asks (again q c lag h f) =
+      let v = verdict-good layout p s h .1 in
+      let stops = store-roomless layout p c s k (v .ready) (v .sound) .1 f in
+      again q c lag h f (rw (open-again layout p s q ∙ settling-good layout p s _ c lag h) (asked-giving _ (store-tried layout p c s k (v .ready) (v .sound) stops)))
+
+  -- so is an opening
+  pub open-tried : Roomless k (openOf layout p s) → OpenAsked layout p s k
+  open-tried e = open-asks (open-roomless .0 e)

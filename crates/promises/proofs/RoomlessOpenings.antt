@@ -1,10 +1,14 @@
 -- A first opening is stopped for want of room exactly where the turn of a slot comes, and every spare that the addresses taken so
 -- far leave for it refuses the code of 0 (condition 2).
+--   takenTo, Bare             the addresses taken so far, as pointers; no spare that pointers leave takes the code of 0
 --   OpeningFull, opening-roomless
+--   SparesAsked               work that ends in asking every spare that pointers leave
+--   spares-giving             the same with another answer
+--   opening-tried             a first opening that is stopped so ends in asking those that the addresses taken so far leave
 use Prim.Native.Nat.{ℕ, zero, suc, _+_, _<_}
-use mathlib.Core.Path.{_≡_, sym, ap, _∙_}
+use mathlib.Core.Path.{_≡_, sym, ap, ap₂, _∙_}
 use mathlib.Core.Bool.{true≢false}
-use mathlib.Core.List.{List}
+use mathlib.Core.List.{List, [], _++_, append-nil, append-assoc}
 use mathlib.Core.Logic.{_⊎_, inl, inr, _↔_}
 use native.Mathlib.Nat.{add-zero, zero-add}
 use native.Mathlib.Numerals.{add-one}
@@ -12,7 +16,7 @@ use native.Mathlib.Omega.{arith}
 use lib.ListN.{length, getD}
 use Rattle.code.specs.Codes.{codeOf}
 use Rattle.cells.specs.Chip.{Chip, Paired}
-use Rattle.cells.specs.Run.{Run}
+use Rattle.cells.specs.Run.{Write, Run, run, still, _then_}
 use Rattle.cells.proofs.Writes.{kept-paired}
 use Rattle.cells.proofs.Logs.{within-kept}
 use Rattle.cells.proofs.Puts.{Refuses}
@@ -23,31 +27,52 @@ use Rattle.counter.specs.declared.verdict.Work.the-variants.{Done, Stopped}
 use Rattle.counter.specs.declared.verdict.Refusal.the-variants.{NoSpare}
 use Rattle.counter.specs.Layout.{Layout, slots}
 use Rattle.counter.specs.Slots.{kindOf}
-use Rattle.counter.specs.Spares.{wholeArea, narrow}
+use Rattle.counter.specs.Spares.{gap, wholeArea, narrow, gapTo}
 use Rattle.counter.specs.Verdict.{_andThen_}
 use Rattle.counter.specs.Store.{trySpares}
-use Rattle.counter.specs.Opening.{Taken, takeFrom, putPointers, putMark, firstOpening}
-use Rattle.counter.specs.Inside.{listed}
-use Rattle.counter.proofs.Gaps.{Between, between-none, between-more, Spare, spare-free}
+use Rattle.counter.specs.Opening.{Taken, taken, takeFrom, putPointers, putMark, firstOpening}
+use Rattle.counter.proofs.Gaps.{Between, between-none, between-more, between-gap, between-unique, Spare, spare-free}
 use Rattle.counter.proofs.Ready.{Ready, ready-kept}
-use Rattle.counter.proofs.Tries.{Landing, Trying, Trying.missing, Trying.landing, try-laws}
+use Rattle.counter.proofs.Tries.{askedSpares, Missing, Landing, Trying, Trying.missing, Trying.landing, try-laws}
 use Rattle.counter.proofs.Moves.{not-done, Ended.done, Ended.roomless, Ended.unmapped}
 use Rattle.counter.proofs.Takes.{TakeLaws, take-landing, take-missing, take-laws}
 use Rattle.counter.proofs.WorkSteps.{take-none, opening-on, opening-ends}
 use Rattle.counter.proofs.Openings.{MapEnded, MapEnded.put, MapEnded.failed, maps-laws}
 use Rattle.promises.proofs.Room.{take-roomless}
 
+-- the addresses that the slots before k take in a first opening, as pointers
+abbrev pub takenTo : Places → Chip → ℕ → ℕ → ℕ
+takenTo p s k j = getD (takeFrom k 0 (wholeArea p) s .answer .addresses) j 0
+
+-- every spare that the pointers of the slots before k leave for slot k refuses the code of 0
+abbrev pub Bare : ℕ → Places → (ℕ → ℕ) → Chip → Type 0
+Bare k p pointer s = (a : ℕ) → Spare (kindOf k) k p pointer a → Refuses a (codeOf 0) s
+
 -- the slots before k took their addresses, and then every spare that these leave for slot k refuses the code of 0
 pub record OpeningFull (layout : Layout) (p : Places) (k : ℕ) (s : Chip) : Type 0 where
   pub inside : k < slots layout
   pub before : takeFrom k 0 (wholeArea p) s .answer .work ≡ Done
-  pub full :
-      (a : ℕ) → Spare (kindOf k) k p (λ j. getD (takeFrom k 0 (wholeArea p) s .answer .addresses) j 0) a
-      → Refuses a (codeOf 0) (takeFrom k 0 (wholeArea p) s .after)
+  pub full : Bare k p (takenTo p s k) (takeFrom k 0 (wholeArea p) s .after)
 
--- no spare that the pointers of the first so many slots leave for the next takes the code of 0
-abbrev Bare : ℕ → Places → (ℕ → ℕ) → Chip → Type 0
-Bare k p pointer s = (a : ℕ) → Spare (kindOf k) k p pointer a → Refuses a (codeOf 0) s
+-- at the end of the work's log the code of 0 was asked of every spare that the pointers of the slots before k leave for slot k, in
+-- order; each refuses it
+pub record SparesAsked {A : Type 0} (p : Places) (k : ℕ) (pointer : ℕ → ℕ) (r : Run A) : Type 0 where
+  -- what was asked before
+  pub earlier : List Write
+  pub log : r .log ≡ earlier ++ askedSpares k (gapTo k p pointer) (codeOf 0)
+  pub bare : Bare k p pointer (r .after)
+
+-- the same work, with another answer and count of spares
+pub spares-giving :
+    {A B : Type 0} {p : Places} {k : ℕ} {pointer : ℕ → ℕ} {r : Run A} (y : B) (tried : ℕ) → SparesAsked p k pointer r
+    → SparesAsked p k pointer (run y (r .log) tried (r .after))
+spares-giving y tried x = record { earlier = x .earlier; log = x .log; bare = x .bare }
+
+-- work behind other work
+spares-then :
+    {A B : Type 0} {p : Places} {k : ℕ} {pointer : ℕ → ℕ} (r : Run A) {q : Run B} → SparesAsked p k pointer q
+    → SparesAsked p k pointer (r then q)
+spares-then r x = record { earlier = r .log ++ x .earlier; log = rw (x .log) (sym (append-assoc (r .log) (x .earlier) _)); bare = x .bare }
 
 -- pointers from slot k on that are these addresses
 abbrev Listed : ℕ → List ℕ → (ℕ → ℕ) → Type 0
@@ -91,13 +116,27 @@ take-always (suc i) (suc m) k g s p pointer l paired e at between bare = go (tak
         here
         ∙ ap (λ (j : ℕ). Stopped (NoSpare j)) moved
 
--- where a taking ended so: the slots before it took their addresses, and it found every spare that they leave refusing
+-- spares that are tried and found to miss were asked, and that is the end
+spares-missed :
+    {p : Places} {k : ℕ} {pointer : ℕ → ℕ} {g : Gap} {s : Chip} → Between k p pointer g → Missing k g (codeOf 0) s
+    → SparesAsked p k pointer (trySpares k g (codeOf 0) s then still (taken (Stopped (NoSpare k)) []) (trySpares k g (codeOf 0) s .after))
+spares-missed {p} {k} {pointer} {g} {s} between m =
+    let same = between-unique between (between-gap k p pointer) in
+    let left : g ≡ gapTo k p pointer = ap₂ gap (same .0) (same .1) in
+    record {
+      earlier = [];
+      log = rw (append-nil, m .comes, left);
+      bare = rw (m .same) (λ a f. m .refused a (spare-free between f));
+    }
+
+-- where a taking ended so: the slots before it took their addresses, and then it asked every spare that they leave and changed nothing
 record Stop (n k j : ℕ) (g : Gap) (s : Chip) : Type 0 where
   many : ℕ
   slot : j ≡ k + many
   inside : many < n
   before : takeFrom many k g s .answer .work ≡ Done
-  bare : (p : Places) (pointer : ℕ → ℕ) → Listed k (takeFrom many k g s .answer .addresses) pointer → Between k p pointer g → Bare j p pointer (takeFrom many k g s .after)
+  after : takeFrom n k g s .after ≡ takeFrom many k g s .after
+  asked : (p : Places) (pointer : ℕ → ℕ) → Listed k (takeFrom many k g s .answer .addresses) pointer → Between k p pointer g → SparesAsked p j pointer (takeFrom n k g s)
 
 take-only : (n k : ℕ) (g : Gap) (s : Chip) (j : ℕ) → Paired s → takeFrom n k g s .answer .work ≡ Stopped (NoSpare j) → Stop n k j g s
 take-only zero k g s j paired e = not-done (sym e ∙ ap (λ (r : Run Taken). r .answer .work) (take-none k g s))
@@ -112,29 +151,33 @@ take-only (suc n) k g s j paired e = go (take-only n (k + 1)) (try-laws k g (cod
         → Stop n (k + 1) j (narrow (kindOf k) (t .place) g) (trySpares k g (codeOf 0) s .after)
         → Stop (suc n) k j g s
     there t x =
-        let all = take-landing (x .many) k g s (t .place) (t .here) in
+        let early = take-landing (x .many) k g s (t .place) (t .here) in
+        let all = take-landing n k g s (t .place) (t .here) in
         record {
           many = suc (x .many);
           slot = let h = x .slot in omega arith;
           inside = let h = x .inside in omega arith;
-          before = ap (λ (r : Run Taken). r .answer .work) all ∙ x .before;
-          bare = rw all
+          before = ap (λ (r : Run Taken). r .answer .work) early ∙ x .before;
+          after = ap (λ (r : Run Taken). r .after) all ∙ x .after ∙ sym (ap (λ (r : Run Taken). r .after) early);
+          asked = rw (early, all)
               (λ p pointer at between.
-              x .bare p pointer
+              spares-then (trySpares k g (codeOf 0) s) (spares-giving _ _ (x .asked p pointer
               (λ i l. let q : k + 1 + i ≡ k + suc i = omega arith in rw q (at (suc i) (omega arith)))
-              (rw add-one (between-more between (t .place) (rw add-zero at (at 0 (omega arith))))));
+              (rw add-one (between-more between (t .place) (rw add-zero at (at 0 (omega arith))))))));
         }
 
     go : Later → Trying k g (codeOf 0) s → Stop (suc n) k j g s
     go later (missing t) =
         let none = take-none k g s in
-        let same : j ≡ k = (let q = sym e ∙ ap (λ (r : Run Taken). r .answer .work) (take-missing n k g s (t .nowhere)) in cc) in
+        let all = take-missing n k g s (t .nowhere) in
+        let same : j ≡ k = (let q = sym e ∙ ap (λ (r : Run Taken). r .answer .work) all in cc) in
         record {
           many = 0;
           slot = same ∙ sym (add-zero k);
           inside = omega arith;
           before = ap (λ (r : Run Taken). r .answer .work) none;
-          bare = rw (none, same) (λ p pointer at between a f. t .refused a (spare-free between f));
+          after = ap (λ (r : Run Taken). r .after) all ∙ t .same ∙ sym (ap (λ (r : Run Taken). r .after) none);
+          asked = rw (none, same, all) (λ p pointer at between. spares-missed between t);
         }
     go later (landing t) =
         there t (later (narrow (kindOf k) (t .place) g) (trySpares k g (codeOf 0) s .after) j (kept-paired (t .kept) paired) (sym (ap (λ (r : Run Taken). r .answer .work) (take-landing n k g s (t .place) (t .here))) ∙ e))
@@ -163,25 +206,39 @@ module _ {layout : Layout} {p : Places} {s : Chip} (ready : Ready layout p s) wh
           absurd (mapped-out (maps .ended) (sym (ap (λ (w : Run Work). w .answer) (opening-on layout p s d)) ∙ e))
       go (inr (i, d)) = sym (ap (λ (w : Run Work). w .answer) (opening-ends layout p s d)) ∙ e
 
-  pub opening-roomless : (k : ℕ) → (firstOpening layout p s .answer ≡ Stopped (NoSpare k)) ↔ OpeningFull layout p k s
-  opening-roomless k = (only, always)
-    where
-      only : firstOpening layout p s .answer ≡ Stopped (NoSpare k) → OpeningFull layout p k s
-      only e =
-          let x = take-only (slots layout) 0 (wholeArea p) s k (ready .paired) (opening-taking k e) in
-          let same : x .many ≡ k = sym (x .slot ∙ zero-add (x .many)) in
-          let pointer = listed (takeFrom (x .many) 0 (wholeArea p) s .answer .addresses) in
-          record {
-            inside = rw (← same) (x .inside);
-            before = rw same at (x .before);
-            full = rw same at (x .bare p pointer (λ i l. ap pointer (zero-add i)) (between-none p pointer));
-          }
+  module _ (k : ℕ) where
+    -- where the taking ended
+    opening-stop : firstOpening layout p s .answer ≡ Stopped (NoSpare k) → Stop (slots layout) 0 k (wholeArea p) s
+    opening-stop e = take-only (slots layout) 0 (wholeArea p) s k (ready .paired) (opening-taking k e)
 
-      always : OpeningFull layout p k s → firstOpening layout p s .answer ≡ Stopped (NoSpare k)
-      always f =
-          let pointer = listed (takeFrom k 0 (wholeArea p) s .answer .addresses) in
-          let same = zero-add k in
-          let stops =
-          take-always k (slots layout) 0 (wholeArea p) s p pointer (f .inside) (ready .paired) (f .before) (λ j l. ap pointer (zero-add j)) (between-none p pointer) (rw same (f .full))
-          ∙ ap (λ (j : ℕ). Stopped (NoSpare j)) same in
-          ap (λ (r : Run Work). r .answer) (opening-ends layout p s stops) ∙ stops
+    -- and what it asked there
+    stop-asked : (x : Stop (slots layout) 0 k (wholeArea p) s) → SparesAsked p k (takenTo p s (x .many)) taking
+    stop-asked x = x .asked p (takenTo p s (x .many)) (λ i l. ap (takenTo p s (x .many)) (zero-add i)) (between-none p (takenTo p s (x .many)))
+
+    pub opening-roomless : (firstOpening layout p s .answer ≡ Stopped (NoSpare k)) ↔ OpeningFull layout p k s
+    opening-roomless = (only, always)
+      where
+        only : firstOpening layout p s .answer ≡ Stopped (NoSpare k) → OpeningFull layout p k s
+        only e =
+            let x = opening-stop e in
+            let same : x .many ≡ k = sym (x .slot ∙ zero-add (x .many)) in
+            record {
+              inside = rw (← same) (x .inside);
+              before = rw same at (x .before);
+              full = rw same at (rw (x .after) at (stop-asked x .bare));
+            }
+
+        always : OpeningFull layout p k s → firstOpening layout p s .answer ≡ Stopped (NoSpare k)
+        always f =
+            let same = zero-add k in
+            let stops =
+            take-always k (slots layout) 0 (wholeArea p) s p (takenTo p s k) (f .inside) (ready .paired) (f .before) (λ j l. ap (takenTo p s k) (zero-add j)) (between-none p (takenTo p s k)) (rw same (f .full))
+            ∙ ap (λ (j : ℕ). Stopped (NoSpare j)) same in
+            ap (λ (r : Run Work). r .answer) (opening-ends layout p s stops) ∙ stops
+
+    -- a first opening that is stopped so ends in asking every spare that the addresses taken so far leave
+    pub opening-tried : firstOpening layout p s .answer ≡ Stopped (NoSpare k) → SparesAsked p k (takenTo p s k) (firstOpening layout p s)
+    opening-tried e =
+        let x = opening-stop e in
+        let same : x .many ≡ k = sym (x .slot ∙ zero-add (x .many)) in
+        rw (opening-ends layout p s (opening-taking k e)) (spares-giving _ _ (rw same at (stop-asked x)))

@@ -1,6 +1,7 @@
 -- Storing a count is stopped for want of room exactly where the turn of a slot comes, and its cell and every spare of its kind
 -- refuse the byte (condition 2).
 --   StoreFull, store-roomless
+--   store-tried               and then its cell and every spare of its kind were asked, at the end of the log
 use Prim.Native.Nat.{ℕ, zero, suc, _+_, _≤_, _<_}
 use mathlib.Core.Path.{_≡_, sym, ap, _∙_}
 use mathlib.Core.Bool.{true≢false}
@@ -23,7 +24,7 @@ use Rattle.counter.proofs.Tries.{Trying.missing, Trying.landing}
 use Rattle.counter.proofs.Moves.{change, not-done, Ended, Ended.done, Ended.roomless, Ended.unmapped, SlotLaws, slot-laws}
 use Rattle.counter.proofs.Stores.{done-then, stopped-then}
 use Rattle.counter.proofs.WorkSteps.{store-all, store-none, store-next}
-use Rattle.promises.proofs.Room.{Full, slot-only, slot-roomless}
+use Rattle.promises.proofs.Room.{Full, Asked, all-asked, asked-then, slot-only, slot-roomless}
 
 -- the slots before k were stored, and then the cell of slot k and every spare of its kind refuse its code of c
 pub record StoreFull (layout : Layout) (p : Places) (c k : ℕ) (s : Chip) : Type 0 where
@@ -75,13 +76,14 @@ module _ (layout : Layout) (p : Places) (c : ℕ) where
       go later (roomless j q) = stops q (ap (λ (w : Run Work). w .answer) (stopped-then r (storeFrom i (k + 1) layout p c) _ q) ∙ q) (λ d. not-done d)
       go later (unmapped a q) = stops q (ap (λ (w : Run Work). w .answer) (stopped-then r (storeFrom i (k + 1) layout p c) _ q) ∙ q) (λ d. not-done d)
 
-  -- where storing ended so: the slots before it were stored, and it found every cell refusing
+  -- where storing ended so: the slots before it were stored, and then it asked each cell and changed nothing
   record Stop (n k j : ℕ) (s : Chip) : Type 0 where
     many : ℕ
     slot : j ≡ k + many
     inside : many < n
     before : storeFrom many k layout p c s .answer ≡ Done
-    full : Full layout p j (slotCode c j) (storeFrom many k layout p c s .after)
+    after : storeFrom n k layout p c s .after ≡ storeFrom many k layout p c s .after
+    asked : Asked layout p j (slotCode c j) (storeFrom n k layout p c s)
 
   from-only :
       (n k : ℕ) (s : Chip) (j : ℕ) → k + n ≤ slots layout → Ready layout p s
@@ -113,24 +115,28 @@ module _ (layout : Layout) (p : Places) (c : ℕ) where
       here q =
           let x = slot-only ready k (omega arith) (slotCode c k) j q in
           let none = store-none layout p c k s in
+          let all = store-next layout p c n k s ∙ stopped-then r rest _ q ∙ x .1 in
           record {
             many = 0;
             slot = x .0 ∙ sym (add-zero k);
             inside = omega arith;
             before = ap (λ (w : Run Work). w .answer) none;
-            full = rw (none, x .0) (x .2);
+            after = ap (λ (w : Run Work). w .after) all ∙ sym (ap (λ (w : Run Work). w .after) none);
+            asked = rw (all, x .0) (all-asked (x .2));
           }
 
       -- or at a later one
       there : r .answer ≡ Done → Stop n (k + 1) j (r .after) → Stop (suc n) k j s
       there q x =
-          let all = store-next layout p c (x .many) k s ∙ done-then r (storeFrom (x .many) (k + 1) layout p c) q in
+          let early = store-next layout p c (x .many) k s ∙ done-then r (storeFrom (x .many) (k + 1) layout p c) q in
+          let all = store-next layout p c n k s ∙ done-then r rest q in
           record {
             many = suc (x .many);
             slot = let h = x .slot in omega arith;
             inside = let h = x .inside in omega arith;
-            before = ap (λ (w : Run Work). w .answer) all ∙ x .before;
-            full = rw all (x .full);
+            before = ap (λ (w : Run Work). w .answer) early ∙ x .before;
+            after = ap (λ (w : Run Work). w .after) all ∙ x .after ∙ sym (ap (λ (w : Run Work). w .after) early);
+            asked = rw all (asked-then r (x .asked));
           }
 
       go : Later → Ended (r .answer) → Stop (suc n) k j s
@@ -142,18 +148,25 @@ module _ (layout : Layout) (p : Places) (c : ℕ) where
           let h = sym (ap (λ (w : Run Work). w .answer) (stopped-then r rest _ q)) ∙ stops in
           absurd (true≢false cc)
 
-  pub store-roomless :
-      (s : Chip) (k : ℕ) → Ready layout p s → Sound (slots layout) p (pointers layout p s)
-      → (store layout p c s .answer ≡ Stopped (NoSpare k)) ↔ StoreFull layout p c k s
-  store-roomless s k ready sound = (only, always)
-    where
-      only : store layout p c s .answer ≡ Stopped (NoSpare k) → StoreFull layout p c k s
-      only e =
-          let x = from-only (slots layout) 0 s k (omega arith) ready sound (rw (store-all layout p c s) at e) in
-          let same : x .many ≡ k = sym (x .slot ∙ zero-add (x .many)) in
-          record { inside = rw (← same) (x .inside); before = rw same at (x .before); full = rw same at (x .full) }
+  module _ (s : Chip) (k : ℕ) (ready : Ready layout p s) (sound : Sound (slots layout) p (pointers layout p s)) where
+    -- where it ended
+    store-stop : store layout p c s .answer ≡ Stopped (NoSpare k) → Stop (slots layout) 0 k s
+    store-stop e = from-only (slots layout) 0 s k (omega arith) ready sound (rw (store-all layout p c s) at e)
 
-      always : StoreFull layout p c k s → store layout p c s .answer ≡ Stopped (NoSpare k)
-      always f =
-          let same = zero-add k in
-          rw (store-all layout p c s) (from-always k (slots layout) 0 s (f .inside) (omega arith) ready sound (f .before) (rw same (f .full)) ∙ ap (λ (j : ℕ). Stopped (NoSpare j)) same)
+    pub store-roomless : (store layout p c s .answer ≡ Stopped (NoSpare k)) ↔ StoreFull layout p c k s
+    store-roomless = (only, always)
+      where
+        only : store layout p c s .answer ≡ Stopped (NoSpare k) → StoreFull layout p c k s
+        only e =
+            let x = store-stop e in
+            let same : x .many ≡ k = sym (x .slot ∙ zero-add (x .many)) in
+            record { inside = rw (← same) (x .inside); before = rw same at (x .before); full = rw same at (rw (x .after) at (x .asked .full)) }
+
+        always : StoreFull layout p c k s → store layout p c s .answer ≡ Stopped (NoSpare k)
+        always f =
+            let same = zero-add k in
+            rw (store-all layout p c s) (from-always k (slots layout) 0 s (f .inside) (omega arith) ready sound (f .before) (rw same (f .full)) ∙ ap (λ (j : ℕ). Stopped (NoSpare j)) same)
+
+    -- a store that is stopped so ends in asking the slot's own cell and every spare of its kind for its code of c
+    pub store-tried : store layout p c s .answer ≡ Stopped (NoSpare k) → Asked layout p k (slotCode c k) (store layout p c s)
+    store-tried e = rw (store-all layout p c s) (store-stop e .asked)
