@@ -1,7 +1,7 @@
 -- A first opening: what it keeps, what it changes.
 --   PointsLaws, points-laws       addresses put as pointers, one slot after another
 --   MarkLaws, mark-laws       the mark put
---   MapLaws, maps-laws           both, one behind the other
+--   MapLaws, map-laws           both, one behind the other
 --   Opened                    what a first opening comes to where it is done
 --   OpeningLaws, opening-laws       the laws of a first opening
 --   whole-inside              the whole area is the area
@@ -199,8 +199,8 @@ module _ {layout : Layout} {p : Places} {s : Chip} (ready : Ready layout p s) (a
         ended = points .ended;
       }
 
-  pub maps-laws : MapLaws layout p addresses s (putPointers addresses 0 p s andThen putMark p)
-  maps-laws = go (points .ended)
+  pub map-laws : MapLaws layout p addresses s (putPointers addresses 0 p s andThen putMark p)
+  map-laws = go (points .ended)
     where
       go : MapEnded (pointing .answer) → MapLaws layout p addresses s (pointing andThen putMark p)
       go (put e) = rw (done-then pointing (putMark p) e) (maps-done e)
@@ -239,7 +239,7 @@ module _ {layout : Layout} {p : Places} {s : Chip} (ready : Ready layout p s) wh
 
   module _ (t : AllTaken (slots layout) 0 (wholeArea p) (takeFrom (slots layout) 0 (wholeArea p) s)) where
     maps : MapLaws layout p (taking .answer .addresses) (taking .after) (mapping (taking .after))
-    maps = maps-laws (ready-kept ready (within-kept taking-within)) (taking .answer .addresses) (t .many)
+    maps = map-laws (ready-kept ready (within-kept taking-within)) (taking .answer .addresses) (t .many)
 
     -- the cells of the area stay while the map is put
     area-kept : (c : ℕ) → Inside p c → cellAt (mapping (taking .after) .after) c ≡ cellAt (taking .after) c

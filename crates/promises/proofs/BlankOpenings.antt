@@ -27,7 +27,7 @@ use Rattle.counter.proofs.MapBytes.{map-byte, mark-none}
 use Rattle.counter.proofs.Ready.{pointers, Ready, InMap, ready-placed, ready-kept, inside-cell, apart-map}
 use Rattle.counter.proofs.Takes.{InGap, AllTaken, TakeLaws, take-laws}
 use Rattle.counter.proofs.WorkSteps.{opening-on}
-use Rattle.counter.proofs.Openings.{whole-inside, opening-laws, MapLaws, maps-laws}
+use Rattle.counter.proofs.Openings.{whole-inside, opening-laws, MapLaws, map-laws}
 use Rattle.counter.proofs.Exact.{Exact, exact-opened}
 use Rattle.counter.proofs.DoorViews.{ready-unopened, open-first}
 use Rattle.promises.proofs.CalmTakes.{roomy-whole, CalmTake, calm-take}
@@ -98,7 +98,7 @@ module _ {layout : Layout} {p : Places} {s : Chip} (fresh : BlankAlive layout p 
       (fresh .alive c (omega arith)))
 
   maps : MapLaws layout p (taking .answer .addresses) (taking .after) mapping
-  maps = maps-laws ready-taken (taking .answer .addresses) (all .many)
+  maps = map-laws ready-taken (taking .answer .addresses) (all .many)
 
   -- ## Both
 

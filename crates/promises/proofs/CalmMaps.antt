@@ -28,7 +28,7 @@ use Rattle.counter.proofs.Ready.{Ready, InMap, ready-kept}
 use Rattle.counter.proofs.Pointers.{done-mapped}
 use Rattle.counter.proofs.PointerRows.{mapRow, pointers-row, mark-row, row-length}
 use Rattle.counter.proofs.Stores.{done-then}
-use Rattle.counter.proofs.Openings.{PointsLaws, points-laws, maps-laws}
+use Rattle.counter.proofs.Openings.{PointsLaws, points-laws, map-laws}
 
 pub record Calmly (Place : ℕ → Type 0) (r : Run Work) : Type 0 where
   pub done : r .answer ≡ Done
@@ -84,7 +84,7 @@ module _ {layout : Layout} {p : Places} {s : Chip} (ready : Ready layout p s) (a
   calm-maps =
       let mark = row-calm markBytes (p .map) (pointing .after) (ready-kept ready (within-kept (points .within)) .paired) mark-live in
       let first = offset-first 0 in
-      let within = maps-laws ready addresses many .within in
+      let within = map-laws ready addresses many .within in
       let then-is = done-then pointing (putMark p) (points-calm .done) ∙ ap (λ (r : Run Work). pointing then r) (mark-row p (pointing .after)) in
       record {
         done = rw then-is (mark .done);

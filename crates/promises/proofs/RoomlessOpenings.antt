@@ -37,7 +37,7 @@ use Rattle.counter.proofs.Tries.{askedSpares, Missing, Landing, Trying, Trying.
 use Rattle.counter.proofs.Moves.{not-done, Ended.done, Ended.roomless, Ended.unmapped}
 use Rattle.counter.proofs.Takes.{TakeLaws, take-landing, take-missing, take-laws}
 use Rattle.counter.proofs.WorkSteps.{take-none, opening-on, opening-ends}
-use Rattle.counter.proofs.Openings.{MapEnded, MapEnded.put, MapEnded.failed, maps-laws}
+use Rattle.counter.proofs.Openings.{MapEnded, MapEnded.put, MapEnded.failed, map-laws}
 use Rattle.promises.proofs.Room.{take-roomless}
 
 -- the addresses that the slots before k take in a first opening, as pointers
@@ -202,7 +202,7 @@ module _ {layout : Layout} {p : Places} {s : Chip} (ready : Ready layout p s) wh
 
       go : (taking .answer .work ≡ Done) ⊎ ((i : ℕ) × (taking .answer .work ≡ Stopped (NoSpare i))) → taking .answer .work ≡ Stopped (NoSpare j)
       go (inl d) =
-          let maps = maps-laws (ready-kept ready (within-kept (takes .within))) (taking .answer .addresses) (takes .all d .many) in
+          let maps = map-laws (ready-kept ready (within-kept (takes .within))) (taking .answer .addresses) (takes .all d .many) in
           absurd (mapped-out (maps .ended) (sym (ap (λ (w : Run Work). w .answer) (opening-on layout p s d)) ∙ e))
       go (inr (i, d)) = sym (ap (λ (w : Run Work). w .answer) (opening-ends layout p s d)) ∙ e
 
