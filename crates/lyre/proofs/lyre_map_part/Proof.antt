@@ -3,11 +3,8 @@ use borrow.Author.Needs.{needs}
 use Rattle.lyre.proofs.lyre_map_part.Statement.{statement}
 use Rattle.lyre.proofs.lyre_map_part.Tie as tie
 
-part-of-requires : tie.Need-part-of-requires
-part-of-requires c κs = search needs
-
 returns : tie.Need-returns
 returns c = c .part-of .ensures
 
 pub lyre-map-part-spec : {M : Type 1} → statement M
-lyre-map-part-spec = tie.close (tie.spec part-of-requires returns)
+lyre-map-part-spec = tie.close (tie.spec (λ c κs. search needs) returns)

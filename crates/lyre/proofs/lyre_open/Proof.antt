@@ -3,20 +3,8 @@ use borrow.Author.Needs.{needs}
 use Rattle.lyre.proofs.lyre_open.Statement.{statement}
 use Rattle.lyre.proofs.lyre_open.Tie as tie
 
-open-requires : tie.Need-open-requires
-open-requires c κs = search needs
-
-plain-requires : tie.Need-plain-requires
-plain-requires c κs = search needs
-
-same-length : tie.Need-same-length
-same-length c = search needs
-
-same-length-2 : tie.Need-same-length-2
-same-length-2 c = search needs
-
 returns : tie.Need-returns
-returns c = rw (c .plain .ensures) (c .before .before .before .before .before .open .ensures)
+returns c = let opened = c .before .before .before .before .before in rw (c .plain .ensures) (opened .open .ensures)
 
 pub lyre-open-spec : {M : Type 1} → statement M
-lyre-open-spec = tie.close (tie.spec open-requires plain-requires same-length same-length-2 returns)
+lyre-open-spec = tie.close (tie.spec (λ c κs. search needs) (λ c κs. search needs) (λ c. search needs) (λ c. search needs) returns)

@@ -3,14 +3,8 @@ use borrow.Author.Needs.{needs}
 use Rattle.lyre.proofs.lyre_read.Statement.{statement}
 use Rattle.lyre.proofs.lyre_read.Tie as tie
 
-read-requires : tie.Need-read-requires
-read-requires c κs = search needs
-
-plain-requires : tie.Need-plain-requires
-plain-requires c κs = search needs
-
 returns : tie.Need-returns
 returns c = rw (c .plain .ensures) (c .before .read .ensures)
 
 pub lyre-read-spec : {M : Type 1} → statement M
-lyre-read-spec = tie.close (tie.spec read-requires plain-requires returns)
+lyre-read-spec = tie.close (tie.spec (λ c κs. search needs) (λ c κs. search needs) returns)

@@ -3,20 +3,8 @@ use borrow.Author.Needs.{needs}
 use Rattle.lyre.proofs.lyre_step.Statement.{statement}
 use Rattle.lyre.proofs.lyre_step.Tie as tie
 
-step-requires : tie.Need-step-requires
-step-requires c κs = search needs
-
-plain-requires : tie.Need-plain-requires
-plain-requires c κs = search needs
-
-same-length : tie.Need-same-length
-same-length c = search needs
-
-same-length-2 : tie.Need-same-length-2
-same-length-2 c = search needs
-
 returns : tie.Need-returns
-returns c = rw (c .plain .ensures) (c .before .before .before .before .before .step .ensures)
+returns c = let stepped = c .before .before .before .before .before in rw (c .plain .ensures) (stepped .step .ensures)
 
 pub lyre-step-spec : {M : Type 1} → statement M
-lyre-step-spec = tie.close (tie.spec step-requires plain-requires same-length same-length-2 returns)
+lyre-step-spec = tie.close (tie.spec (λ c κs. search needs) (λ c κs. search needs) (λ c. search needs) (λ c. search needs) returns)

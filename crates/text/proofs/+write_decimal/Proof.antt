@@ -67,8 +67,7 @@ write-decimal-write-digit-requires-2 : (t : ℕ) → write-decimal-lts.Need-writ
   write-decimal-below t,
   write-decimal.Post,
 ) (write-decimal-at t) write-decimal.Post
-write-decimal-write-digit-requires-2 t c κs =
-    omega (arith, length-more _ (c .before .before .before .before .before .if1 .left))
+write-decimal-write-digit-requires-2 t c κs = let called = c .before .before .before in omega (arith, length-more _ (called .before .before .if1 .left))
 
 write-decimal-same-length-2 : (t : ℕ) → write-decimal-lts.Need-same-length-2 (
   write-digit-reads.Asked,
@@ -76,8 +75,7 @@ write-decimal-same-length-2 : (t : ℕ) → write-decimal-lts.Need-same-length-2
   write-decimal-below t,
   write-decimal.Post,
 ) (write-decimal-at t) write-decimal.Post
-write-decimal-same-length-2 t c =
-    c .before .before .write-digit2 .kept .1 .0 ∙ c .before .before .before .before .before .before .write-decimal .kept .1 .0
+write-decimal-same-length-2 t c = let last = c .before .before in last .write-digit2 .kept .1 .0 ∙ last .before .before .before .before .write-decimal .kept .1 .0
 
 write-decimal-returns-2 : (t : ℕ) → write-decimal-lts.Need-returns-2 (
   write-digit-reads.Asked,
@@ -86,10 +84,11 @@ write-decimal-returns-2 : (t : ℕ) → write-decimal-lts.Need-returns-2 (
   write-decimal.Post,
 ) (write-decimal-at t) write-decimal.Post
 write-decimal-returns-2 t c =
-    let called = c .before .before .before .before .before .before in
+    let last = c .before .before in
+    let called = last .before .before .before .before in
     let tested = called .before .before in
     let more = decimal-more _ (tested .if1 .left) in
-    rw more (wrote-more _ _ (rw more at (tested .before .before .pre .1)) (called .write-decimal .ensures) (c .before .before .write-digit2 .ensures))
+    rw more (wrote-more _ _ (rw more at (tested .before .before .pre .1)) (called .write-decimal .ensures) (last .write-digit2 .ensures))
 
 pub +write-decimal-spec : {M : Type 1} → statement M
 +write-decimal-spec = close μ-write-decimal λ t. write-decimal-lts.spec (

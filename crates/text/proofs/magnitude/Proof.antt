@@ -46,8 +46,5 @@ cast-result-2 c =
     let (k, is, small) = positive _ (c .before .fits .n) (c .if1 .left) in
     rw (toZ-ofZ (c .before .fits .n), is) (tt, record { fits = omega arith })
 
-returns-2 : tie.Need-returns-2
-returns-2 c = search needs
-
 pub magnitude-spec : {M : Type 1} → statement M
-magnitude-spec = tie.close (tie.spec cast-result add-result returns cast-result-2 returns-2)
+magnitude-spec = tie.close (tie.spec cast-result add-result returns cast-result-2 (λ c. search needs))

@@ -4,17 +4,8 @@ use Rattle.text.proofs.Writing.{wrote-one}
 use Rattle.text.proofs.write_byte.Statement.{statement}
 use Rattle.text.proofs.write_byte.Tie as tie
 
-slice-write-text : tie.Need-slice-write-text
-slice-write-text c = search needs
-
-add-result : tie.Need-add-result
-add-result c = search needs
-
-same-length : tie.Need-same-length
-same-length c = search needs
-
 returns : tie.Need-returns
 returns c = wrote-one _ _ _ (search needs)
 
 pub write-byte-spec : {M : Type 1} → statement M
-write-byte-spec = tie.close (tie.spec slice-write-text add-result same-length returns)
+write-byte-spec = tie.close (tie.spec (λ c. search needs) (λ c. search needs) (λ c. search needs) returns)

@@ -23,29 +23,20 @@ abbrev μ-loop : tie.MeasureT-loop
 loop-holds : tie.Need-loop-holds Inv-loop μ-loop
 loop-holds c = record { inside = omega arith; wrote = wrote-none _ _ (omega arith); same = refl }
 
-shared-slice-read-write-byte : tie.Need-shared-slice-read-write-byte Inv-loop μ-loop
-shared-slice-read-write-byte c = search needs
-
 write-byte-requires : tie.Need-write-byte-requires Inv-loop μ-loop
 write-byte-requires c κs =
     let turn = c .before .before in
     room-next _ _ (turn .loop-test .taken) (turn .before .before .before .before .pre) (turn .before .loop .inv .wrote)
 
-add-done : tie.Need-add-done Inv-loop μ-loop
-add-done c = search needs
-
-loop-less : tie.Need-loop-less Inv-loop μ-loop
-loop-less c = search needs
-
 loop-again : tie.Need-loop-again Inv-loop μ-loop
 loop-again c =
-    let turn = c .before .before .before .before .before in
+    let call = c .before .before in
+    let turn = call .before .before .before in
     let inv = turn .before .loop .inv in
-    let call = c .before .before .write-byte in
     record {
       inside = omega arith;
-      wrote = wrote-next _ _ (turn .loop-test .taken) (turn .before .before .before .before .pre) (inv .wrote) (call .ensures);
-      same = call .kept .1 .0 ∙ inv .same;
+      wrote = wrote-next _ _ (turn .loop-test .taken) (turn .before .before .before .before .pre) (inv .wrote) (call .write-byte .ensures);
+      same = call .write-byte .kept .1 .0 ∙ inv .same;
     }
 
 same-length : tie.Need-same-length Inv-loop μ-loop
@@ -61,10 +52,10 @@ write-bytes-spec =
     Inv-loop
     μ-loop
     loop-holds
-    shared-slice-read-write-byte
+    (λ c. search needs)
     write-byte-requires
-    add-done
-    loop-less
+    (λ c. search needs)
+    (λ c. search needs)
     loop-again
     same-length
     returns)

@@ -31,19 +31,13 @@ module _ (n : ℤ) (fits : SFits w64 n) (magnitude : ℕ) (is : magnitude ≡ na
       ap signed same ∙ ap decimal (sym (is ∙ ap natAbs (toZ-ofZ fits ∙ same)))
 
 write-byte-requires : tie.Need-write-byte-requires
-write-byte-requires c κs =
-    omega (arith, ap length (with-minus _ (c .before .before .before .fits .n) _ refl (c .before .if1 .taken)))
-
-magnitude-requires : tie.Need-magnitude-requires
-magnitude-requires c κs = search needs
+write-byte-requires c κs = omega (arith, ap length (with-minus _ (c .before .before .before .fits .n) _ refl (c .before .if1 .taken)))
 
 write-decimal-requires : tie.Need-write-decimal-requires
 write-decimal-requires c κs =
-    let tested = c .before .before .before .before .before .before in
+    let signed = c .before .before .before .before in
+    let tested = signed .before .before in
     omega (arith, ap length (with-minus _ (tested .before .before .fits .n) _ (c .before .magnitude .ensures) (tested .if1 .taken)))
-
-same-length : tie.Need-same-length
-same-length c = search needs
 
 returns : tie.Need-returns
 returns c =
@@ -54,16 +48,10 @@ returns c =
     let is = with-minus _ (start .fits .n) _ (measured .magnitude .ensures) (tested .if1 .taken) in
     rw is (wrote-more _ _ (rw is at (start .pre)) (signed .write-byte .ensures) (c .before .before .write-decimal .ensures))
 
-magnitude-requires-2 : tie.Need-magnitude-requires-2
-magnitude-requires-2 c κs = search needs
-
 write-decimal-requires-2 : tie.Need-write-decimal-requires-2
 write-decimal-requires-2 c κs =
     let tested = c .before .before in
     rw (← plain _ (tested .before .before .fits .n) _ (c .before .magnitude2 .ensures) (tested .if1 .left)) (tested .before .before .pre)
-
-same-length-2 : tie.Need-same-length-2
-same-length-2 c = search needs
 
 returns-2 : tie.Need-returns-2
 returns-2 c =
@@ -76,11 +64,11 @@ write-signed-spec =
     tie.close
     (tie.spec
     write-byte-requires
-    magnitude-requires
+    (λ c κs. search needs)
     write-decimal-requires
-    same-length
+    (λ c. search needs)
     returns
-    magnitude-requires-2
+    (λ c κs. search needs)
     write-decimal-requires-2
-    same-length-2
+    (λ c. search needs)
     returns-2)

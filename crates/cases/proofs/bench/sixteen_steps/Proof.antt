@@ -14,9 +14,6 @@ abbrev μ-loop : tie.MeasureT-loop
 loop-holds : tie.Need-loop-holds Inv-loop μ-loop
 loop-holds c = tt
 
-one-step-requires : tie.Need-one-step-requires Inv-loop μ-loop
-one-step-requires c κs = search needs
-
 add-counter : tie.Need-add-counter Inv-loop μ-loop
 add-counter c = omega arith
 
@@ -26,9 +23,6 @@ loop-less c = omega arith
 loop-again : tie.Need-loop-again Inv-loop μ-loop
 loop-again c = tt
 
-returns : tie.Need-returns Inv-loop μ-loop
-returns c = search needs
-
 pub sixteen-steps-spec : {M : Type 1} → statement M
 sixteen-steps-spec =
     tie.close
@@ -36,8 +30,8 @@ sixteen-steps-spec =
     Inv-loop
     μ-loop
     loop-holds
-    one-step-requires
+    (λ c κs. search needs)
     add-counter
     loop-less
     loop-again
-    returns)
+    (λ c. search needs))

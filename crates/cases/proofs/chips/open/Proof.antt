@@ -6,9 +6,6 @@ use Rattle.cases.proofs.Sizes.{image-holds, lives-hold}
 use Rattle.cases.proofs.chips.open.Statement.{statement}
 use Rattle.cases.proofs.chips.open.Tie as tie
 
-at-most-largest-requires : tie.Need-at-most-largest-requires
-at-most-largest-requires c κs = search needs
-
 array-borrow-prefix-image : tie.Need-array-borrow-prefix-image
 array-borrow-prefix-image c =
     let start = c .before .before .before in
@@ -25,20 +22,14 @@ array-borrow-prefix-lives c =
 slice-aggregate-open-2 : tie.Need-slice-aggregate-open-2
 slice-aggregate-open-2 c = sym (length-take-le _ _ (array-borrow-prefix-lives (c .before)))
 
-open-requires : tie.Need-open-requires
-open-requires c κs = search needs
-
-returns : tie.Need-returns
-returns c = search needs
-
 pub open-spec : {M : Type 1} → statement M
 open-spec =
     tie.close
     (tie.spec
-    at-most-largest-requires
+    (λ c κs. search needs)
     array-borrow-prefix-image
     slice-aggregate-open
     array-borrow-prefix-lives
     slice-aggregate-open-2
-    open-requires
-    returns)
+    (λ c κs. search needs)
+    (λ c. search needs))

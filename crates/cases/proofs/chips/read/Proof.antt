@@ -6,9 +6,6 @@ use Rattle.cases.proofs.Sizes.{image-holds}
 use Rattle.cases.proofs.chips.read.Statement.{statement}
 use Rattle.cases.proofs.chips.read.Tie as tie
 
-at-most-largest-requires : tie.Need-at-most-largest-requires
-at-most-largest-requires c κs = search needs
-
 array-share-prefix-image : tie.Need-array-share-prefix-image
 array-share-prefix-image c =
     let start = c .before .before in
@@ -17,18 +14,12 @@ array-share-prefix-image c =
 slice-aggregate-read : tie.Need-slice-aggregate-read
 slice-aggregate-read c = sym (length-take-le _ _ (array-share-prefix-image (c .before)))
 
-read-requires : tie.Need-read-requires
-read-requires c κs = search needs
-
-returns : tie.Need-returns
-returns c = search needs
-
 pub read-spec : {M : Type 1} → statement M
 read-spec =
     tie.close
     (tie.spec
-    at-most-largest-requires
+    (λ c κs. search needs)
     array-share-prefix-image
     slice-aggregate-read
-    read-requires
-    returns)
+    (λ c κs. search needs)
+    (λ c. search needs))

@@ -10,12 +10,6 @@ use Rattle.text.proofs.Writing.{wrote-within}
 use Rattle.cases.proofs.lines.print_signed.Statement.{statement}
 use Rattle.cases.proofs.lines.print_signed.Tie as tie
 
-write-all-requires : tie.Need-write-all-requires
-write-all-requires c κs = search needs
-
-slice-aggregate-write-signed : tie.Need-slice-aggregate-write-signed
-slice-aggregate-write-signed c = search needs
-
 write-signed-requires : tie.Need-write-signed-requires
 write-signed-requires c κs =
     let start = c .before .before .before in
@@ -27,20 +21,14 @@ array-share-prefix-digits c = wrote-within zero-le (c .before .write-signed .ens
 slice-aggregate-write-all : tie.Need-slice-aggregate-write-all
 slice-aggregate-write-all c = sym (length-take-le _ _ (wrote-within zero-le (c .before .before .write-signed .ensures)))
 
-write-all-requires-2 : tie.Need-write-all-requires-2
-write-all-requires-2 c κs = search needs
-
-returns : tie.Need-returns
-returns c = search needs
-
 pub print-signed-spec : {M : Type 1} → statement M
 print-signed-spec =
     tie.close
     (tie.spec
-    write-all-requires
-    slice-aggregate-write-signed
+    (λ c κs. search needs)
+    (λ c. search needs)
     write-signed-requires
     array-share-prefix-digits
     slice-aggregate-write-all
-    write-all-requires-2
-    returns)
+    (λ c κs. search needs)
+    (λ c. search needs))

@@ -4,14 +4,8 @@ use borrow.Author.Needs.{needs}
 use Rattle.cells.proofs.row.nth.Statement.{statement}
 use Rattle.cells.proofs.row.nth.Tie as tie
 
-enum-told : tie.Need-enum-told
-enum-told c = search needs
-
 add-result : tie.Need-add-result
 add-result c = let h = rw (c .enum-told .given .1) at (c .before .before .pre) in omega arith
-
-enum-told-2 : tie.Need-enum-told-2
-enum-told-2 c = search needs
 
 sub-result : tie.Need-sub-result
 sub-result c = let h = rw (c .enum-told2 .given .1) at (c .before .before .pre) in omega arith
@@ -23,4 +17,4 @@ returns-2 : tie.Need-returns-2
 returns-2 c = rw (c .enum-told2 .given .1)
 
 pub nth-spec : {M : Type 1} → statement M
-nth-spec = tie.close (tie.spec enum-told add-result enum-told-2 sub-result returns returns-2)
+nth-spec = tie.close (tie.spec (λ c. search needs) add-result (λ c. search needs) sub-result returns returns-2)

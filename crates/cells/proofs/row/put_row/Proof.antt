@@ -28,6 +28,9 @@ Inv-loop image₀ lives₀ at bytes writes₀ i₀ image lives writes i =
 abbrev μ-loop : tie.MeasureT-loop
 μ-loop image₀ lives₀ at bytes writes₀ i₀ image lives writes i = length bytes - i
 
+abbrev put : tie.After-struct-known Inv-loop μ-loop → tie.After-put Inv-loop μ-loop
+put c = c .before .before .before .before .before
+
 loop-holds : tie.Need-loop-holds Inv-loop μ-loop
 loop-holds c = record { most = omega arith; few = omega arith; cells-kept = refl; lives-kept = refl; rest = row-left-all _ _ _ }
 
@@ -41,24 +44,16 @@ put-requires : tie.Need-put-requires Inv-loop μ-loop
 put-requires c κs = omega arith
 
 add-writes : tie.Need-add-writes Inv-loop μ-loop
-add-writes c = omega (arith, put-few _ _ _ (c .before .before .before .before .before .put .ensures))
+add-writes c = omega (arith, put-few _ _ _ (put c .put .ensures))
 
 add-t16 : tie.Need-add-t16 Inv-loop μ-loop
 add-t16 c = omega arith
 
-same-length : tie.Need-same-length Inv-loop μ-loop
-same-length c = search needs
-
-same-length-2 : tie.Need-same-length-2 Inv-loop μ-loop
-same-length-2 c = search needs
-
 returns : tie.Need-returns Inv-loop μ-loop
 returns c =
-    let call = c .before .before .before .before .before .before .before in
+    let call = put (c .before .before) in
     let test = call .before .before .before .before in
-    sym
-    (test .before .loop .inv .rest
-    ∙ ap (plus _ _) (row-left-failed _ _ _ _ (test .loop-test .taken) (call .put .ensures) (not-true _ (c .if1 .taken))))
+    sym (test .before .loop .inv .rest ∙ ap (plus _ _) (row-left-failed _ _ _ _ (test .loop-test .taken) (call .put .ensures) (not-true _ (c .if1 .taken))))
 
 add-i : tie.Need-add-i Inv-loop μ-loop
 add-i c = omega arith
@@ -68,7 +63,7 @@ loop-less c = omega arith
 
 loop-again : tie.Need-loop-again Inv-loop μ-loop
 loop-again c =
-    let call = c .before .before .before .before .before .before .before in
+    let call = put (c .before .before) in
     let test = call .before .before .before .before in
     record {
       most = omega arith;
@@ -80,12 +75,6 @@ loop-again c =
           ∙ ap (plus _ _) (row-left-held _ _ _ _ (test .loop-test .taken) (call .put .ensures) (not-false _ (c .if1 .left)))
           ∙ plus-plus _ _ _ _ _;
     }
-
-same-length-3 : tie.Need-same-length-3 Inv-loop μ-loop
-same-length-3 c = search needs
-
-same-length-4 : tie.Need-same-length-4 Inv-loop μ-loop
-same-length-4 c = search needs
 
 returns-2 : tie.Need-returns-2 Inv-loop μ-loop
 returns-2 c = sym (c .before .loop .inv .rest ∙ row-left-none _ _ _ (c .before .loop .i) _ (omega arith))
@@ -102,12 +91,12 @@ put-row-spec =
     put-requires
     add-writes
     add-t16
-    same-length
-    same-length-2
+    (λ c. search needs)
+    (λ c. search needs)
     returns
     add-i
     loop-less
     loop-again
-    same-length-3
-    same-length-4
+    (λ c. search needs)
+    (λ c. search needs)
     returns-2)

@@ -28,6 +28,9 @@ Inv-loop image₀ lives₀ cells way from byte j₀ image lives j =
 abbrev μ-loop : tie.MeasureT-loop
 μ-loop image₀ lives₀ cells way from byte j₀ image lives j = cells - j
 
+abbrev put : tie.After-slice-known4 Inv-loop μ-loop → tie.After-put Inv-loop μ-loop
+put c = c .before .before .before .before
+
 loop-holds : tie.Need-loop-holds Inv-loop μ-loop
 loop-holds c = record { most = omega arith; cells-kept = refl; lives-kept = refl; rest = walk-left-all _ _ _ _ _ }
 
@@ -40,30 +43,21 @@ put-requires : tie.Need-put-requires Inv-loop μ-loop
 put-requires c κs =
     let test = c .before .before .before in
     let start = test .before .before .before .before in
-    let here = c .before .before .nth .ensures in
     let inside = nth-fits (length (now (start .args .image))) (start .args .way) (start .args .from) (test .loop-test .taken) (start .pre .0) in
-    (omega arith, omega arith)
+    (omega (arith, c .before .before .nth .ensures), omega arith)
 
 add-t16 : tie.Need-add-t16 Inv-loop μ-loop
-add-t16 c = omega (arith, put-few _ _ _ (c .before .before .before .before .before .before .put .ensures))
+add-t16 c = omega (arith, put-few _ _ _ (put (c .before .before) .put .ensures))
 
 add-t17 : tie.Need-add-t17 Inv-loop μ-loop
 add-t17 c = omega arith
 
-same-length : tie.Need-same-length Inv-loop μ-loop
-same-length c = search needs
-
-same-length-2 : tie.Need-same-length-2 Inv-loop μ-loop
-same-length-2 c = search needs
-
 returns : tie.Need-returns Inv-loop μ-loop
 returns c =
-    let call = c .before .before .before .before .before .before in
+    let call = put (c .before .before) in
     let place = call .before .before .before in
     let test = place .before in
-    sym
-    (test .before .loop .inv .rest
-    ∙ ap (plus _ _) (walk-left-held _ _ _ _ _ _ _ (test .loop-test .taken) (place .nth .ensures) (call .put .ensures) (c .before .if1 .taken)))
+    sym (test .before .loop .inv .rest ∙ ap (plus _ _) (walk-left-held _ _ _ _ _ _ _ (test .loop-test .taken) (place .nth .ensures) (call .put .ensures) (c .before .if1 .taken)))
 
 add-j : tie.Need-add-j Inv-loop μ-loop
 add-j c = omega arith
@@ -73,7 +67,7 @@ loop-less c = omega arith
 
 loop-again : tie.Need-loop-again Inv-loop μ-loop
 loop-again c =
-    let call = c .before .before .before .before .before in
+    let call = put (c .before) in
     let place = call .before .before .before in
     let test = place .before in
     record {
@@ -85,12 +79,6 @@ loop-again c =
           ∙ ap (plus _ _) (walk-left-passed _ _ _ _ _ _ _ (test .loop-test .taken) (place .nth .ensures) (call .put .ensures) (c .if1 .left))
           ∙ plus-plus _ _ _ _ _;
     }
-
-same-length-3 : tie.Need-same-length-3 Inv-loop μ-loop
-same-length-3 c = search needs
-
-same-length-4 : tie.Need-same-length-4 Inv-loop μ-loop
-same-length-4 c = search needs
 
 returns-2 : tie.Need-returns-2 Inv-loop μ-loop
 returns-2 c = sym (c .before .loop .inv .rest ∙ walk-left-none _ _ _ _ _ _ (omega arith))
@@ -106,12 +94,12 @@ walk-spec =
     put-requires
     add-t16
     add-t17
-    same-length
-    same-length-2
+    (λ c. search needs)
+    (λ c. search needs)
     returns
     add-j
     loop-less
     loop-again
-    same-length-3
-    same-length-4
+    (λ c. search needs)
+    (λ c. search needs)
     returns-2)

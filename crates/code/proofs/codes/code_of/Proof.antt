@@ -5,15 +5,9 @@ use Rattle.code.specs.Codes.{codes, codeOf}
 use Rattle.code.proofs.codes.code_of.Statement.{statement}
 use Rattle.code.proofs.codes.code_of.Tie as tie
 
-cast-result : tie.Need-cast-result
-cast-result c = search needs
-
-array-read-result : tie.Need-array-read-result
-array-read-result c = search needs
-
 returns : tie.Need-returns
 unfolding codes codeOf
 returns c = refl
 
 pub code-of-spec : {M : Type 1} → statement M
-code-of-spec = tie.close (tie.spec cast-result array-read-result returns)
+code-of-spec = tie.close (tie.spec (λ c. search needs) (λ c. search needs) returns)

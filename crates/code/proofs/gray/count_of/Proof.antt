@@ -19,9 +19,6 @@ abbrev μ-loop : tie.MeasureT-loop
 loop-holds : tie.Need-loop-holds Inv-loop μ-loop
 loop-holds c = (search needs, refl)
 
-loop-less : tie.Need-loop-less Inv-loop μ-loop
-loop-less c = search needs
-
 loop-again : tie.Need-loop-again Inv-loop μ-loop
 loop-again c = (search needs, count-turn (c .before .loop .count) _ (c .before .loop .inv .0) ∙ c .before .loop .inv .1)
 
@@ -31,4 +28,4 @@ returns c =
     sym (count-done _) ∙ ap (λ (g : ℕ). bitXor (c .before .loop .count) (countOf g)) none ∙ c .before .loop .inv .1
 
 pub count-of-spec : {M : Type 1} → statement M
-count-of-spec = tie.close (tie.spec Inv-loop μ-loop loop-holds loop-less loop-again returns)
+count-of-spec = tie.close (tie.spec Inv-loop μ-loop loop-holds (λ c. search needs) loop-again returns)

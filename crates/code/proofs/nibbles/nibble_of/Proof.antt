@@ -7,18 +7,6 @@ use Rattle.code.proofs.NibbleLaws.{sixteens, nibble-past}
 use Rattle.code.proofs.nibbles.nibble_of.Statement.{statement}
 use Rattle.code.proofs.nibbles.nibble_of.Tie as tie
 
-mul-result : tie.Need-mul-result
-mul-result c = search needs
-
-cast-result : tie.Need-cast-result
-cast-result c = search needs
-
-shr-result : tie.Need-shr-result
-shr-result c = search needs
-
-cast-result-2 : tie.Need-cast-result-2
-cast-result-2 c = search needs
-
 returns : tie.Need-returns
 unfolding nibbleOf
 returns c = ap (λ (x : ℕ). c .before .args .word / x % 16) (sym (sixteens (c .before .args .k)))
@@ -28,4 +16,4 @@ returns-2 c = sym (nibble-past _ _ (search needs) (c .if1 .left))
 
 pub nibble-of-spec : {M : Type 1} → statement M
 nibble-of-spec =
-    tie.close (tie.spec mul-result cast-result shr-result cast-result-2 returns returns-2)
+    tie.close (tie.spec (λ c. search needs) (λ c. search needs) (λ c. search needs) (λ c. search needs) returns returns-2)

@@ -22,23 +22,11 @@ loop-holds c = (search needs, search needs, sym (word-none (c .args .t1) 8 (sear
 small : (c : tie.In-loop Inv-loop μ-loop) → c .before .loop .word < 16 ^ 7
 small c = let h = word-drop-small (c .before .before .args .t1) (c .before .loop .k) 7 (omega arith) in omega arith
 
-sub-k : tie.Need-sub-k Inv-loop μ-loop
-sub-k c = search needs
-
 mul-word : tie.Need-mul-word Inv-loop μ-loop
 mul-word c = omega (arith, small c)
 
-array-read-word : tie.Need-array-read-word Inv-loop μ-loop
-array-read-word c = search needs
-
-cast-word : tie.Need-cast-word Inv-loop μ-loop
-cast-word c = search needs
-
 add-word : tie.Need-add-word Inv-loop μ-loop
 add-word c = omega (arith, small c)
-
-loop-less : tie.Need-loop-less Inv-loop μ-loop
-loop-less c = search needs
 
 loop-again : tie.Need-loop-again Inv-loop μ-loop
 loop-again c = (
@@ -60,11 +48,11 @@ word-of-spec =
     Inv-loop
     μ-loop
     loop-holds
-    sub-k
+    (λ c. search needs)
     mul-word
-    array-read-word
-    cast-word
+    (λ c. search needs)
+    (λ c. search needs)
     add-word
-    loop-less
+    (λ c. search needs)
     loop-again
     returns)

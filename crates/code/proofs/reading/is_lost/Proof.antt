@@ -4,15 +4,6 @@ use Rattle.code.specs.Readings.{isLost}
 use Rattle.code.proofs.reading.is_lost.Statement.{statement}
 use Rattle.code.proofs.reading.is_lost.Tie as tie
 
-enum-told : tie.Need-enum-told
-enum-told c = search needs
-
-enum-told-2 : tie.Need-enum-told-2
-enum-told-2 c = search needs
-
-enum-told-3 : tie.Need-enum-told-3
-enum-told-3 c = search needs
-
 returns : tie.Need-returns
 unfolding isLost
 returns c = search needs
@@ -26,4 +17,4 @@ unfolding isLost
 returns-3 c = search needs
 
 pub is-lost-spec : {M : Type 1} → statement M
-is-lost-spec = tie.close (tie.spec enum-told enum-told-2 enum-told-3 returns returns-2 returns-3)
+is-lost-spec = tie.close (tie.spec (λ c. search needs) (λ c. search needs) (λ c. search needs) returns returns-2 returns-3)

@@ -4,15 +4,6 @@ use Rattle.code.specs.Readings.{nibbleRead}
 use Rattle.code.proofs.reading.nibble_read.Statement.{statement}
 use Rattle.code.proofs.reading.nibble_read.Tie as tie
 
-enum-known-reading : tie.Need-enum-known-reading
-enum-known-reading c = search needs
-
-enum-known-reading-2 : tie.Need-enum-known-reading-2
-enum-known-reading-2 c = search needs
-
-enum-told : tie.Need-enum-told
-enum-told c = search needs
-
 returns : tie.Need-returns
 unfolding nibbleRead
 returns c = search needs
@@ -28,4 +19,4 @@ returns-3 c = search needs
 pub nibble-read-spec : {M : Type 1} → statement M
 nibble-read-spec =
     tie.close
-    (tie.spec enum-known-reading enum-known-reading-2 enum-told returns returns-2 returns-3)
+    (tie.spec (λ c. search needs) (λ c. search needs) (λ c. search needs) returns returns-2 returns-3)

@@ -6,14 +6,8 @@ use Rattle.code.proofs.ReadingLaws.{entry-reading}
 use Rattle.code.proofs.reading.reading_of.Statement.{statement}
 use Rattle.code.proofs.reading.reading_of.Tie as tie
 
-entry-of-requires : tie.Need-entry-of-requires
-entry-of-requires c κs = search needs
-
-reading-at-requires : tie.Need-reading-at-requires
-reading-at-requires c κs = search needs
-
 returns : tie.Need-returns
 returns c = c .reading-at .ensures ∙ ap readingAt (c .before .entry-of .ensures) ∙ entry-reading _ (search needs)
 
 pub reading-of-spec : {M : Type 1} → statement M
-reading-of-spec = tie.close (tie.spec entry-of-requires reading-at-requires returns)
+reading-of-spec = tie.close (tie.spec (λ c κs. search needs) (λ c κs. search needs) returns)

@@ -6,14 +6,8 @@ use Rattle.code.proofs.ReadingLaws.{entry-twofold}
 use Rattle.code.proofs.reading.twofold_byte.Statement.{statement}
 use Rattle.code.proofs.reading.twofold_byte.Tie as tie
 
-entry-of-requires : tie.Need-entry-of-requires
-entry-of-requires c κs = search needs
-
-twofold-at-requires : tie.Need-twofold-at-requires
-twofold-at-requires c κs = search needs
-
 returns : tie.Need-returns
 returns c = c .twofold-at .ensures ∙ ap twofoldAt (c .before .entry-of .ensures) ∙ entry-twofold _ (search needs)
 
 pub twofold-byte-spec : {M : Type 1} → statement M
-twofold-byte-spec = tie.close (tie.spec entry-of-requires twofold-at-requires returns)
+twofold-byte-spec = tie.close (tie.spec (λ c κs. search needs) (λ c κs. search needs) returns)

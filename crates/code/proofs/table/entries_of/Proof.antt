@@ -23,9 +23,6 @@ Inv-loop bytes table read₀ k₀ read k =
 abbrev μ-loop : tie.MeasureT-loop
 μ-loop bytes table read₀ k₀ read k = 16 - k
 
-laid-requires : tie.Need-laid-requires Inv-loop μ-loop
-laid-requires c κs = search needs
-
 loop-holds : tie.Need-loop-holds Inv-loop μ-loop
 loop-holds c =
     record {
@@ -35,30 +32,15 @@ loop-holds c =
       each = λ j l. absurd (omega arith);
     }
 
-element-copy-out-wide : tie.Need-element-copy-out-wide Inv-loop μ-loop
-element-copy-out-wide c = search needs
-
-wide-requires : tie.Need-wide-requires Inv-loop μ-loop
-wide-requires c κs = search needs
-
-array-read-read : tie.Need-array-read-read Inv-loop μ-loop
-array-read-read c = search needs
-
 array-write-read : tie.Need-array-write-read Inv-loop μ-loop
 array-write-read c = omega arith
 
-add-k : tie.Need-add-k Inv-loop μ-loop
-add-k c = search needs
-
-loop-less : tie.Need-loop-less Inv-loop μ-loop
-loop-less c = search needs
-
 loop-again : tie.Need-loop-again Inv-loop μ-loop
 loop-again c =
-    let loop = c .before .before .before .loop in
-    let bytes = c .before .before .before .before .before .args .bytes .now in
-    let byte = getD bytes (loop .k) 0 in
-    let small : byte < 256 = omega arith in
+    let at = c .before .before .before in
+    let loop = at .loop in
+    let bytes = at .before .before .args .bytes .now in
+    let small : getD bytes (loop .k) 0 < 256 = omega arith in
     let entry = loop .inv .rule (c .wide .result) (c .wide .ensures .1) ∙ ap entryOf (c .wide .ensures .0) in
     record {
       most = omega arith;
@@ -76,13 +58,13 @@ entries-of-spec =
     (tie.spec
     Inv-loop
     μ-loop
-    laid-requires
+    (λ c κs. search needs)
     loop-holds
-    element-copy-out-wide
-    wide-requires
-    array-read-read
+    (λ c. search needs)
+    (λ c κs. search needs)
+    (λ c. search needs)
     array-write-read
-    add-k
-    loop-less
+    (λ c. search needs)
+    (λ c. search needs)
     loop-again
     returns)

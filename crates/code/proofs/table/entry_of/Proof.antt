@@ -8,12 +8,6 @@ use Rattle.code.proofs.ReadingLaws.{entry-at}
 use Rattle.code.proofs.table.entry_of.Statement.{statement}
 use Rattle.code.proofs.table.entry_of.Tie as tie
 
-laid-requires : tie.Need-laid-requires
-laid-requires c κs = search needs
-
-entry-in-requires : tie.Need-entry-in-requires
-entry-in-requires c κs = search needs
-
 returns : tie.Need-returns
 returns c =
     let byte = c .before .before .before .args .byte in
@@ -21,4 +15,4 @@ returns c =
     ∙ entry-at byte (search needs)
 
 pub entry-of-spec : {M : Type 1} → statement M
-entry-of-spec = tie.close (tie.spec laid-requires entry-in-requires returns)
+entry-of-spec = tie.close (tie.spec (λ c κs. search needs) (λ c κs. search needs) returns)

@@ -12,18 +12,6 @@ use Rattle.counter.specs.Layout.{two}
 use Rattle.counter.proofs.doors.begin.Statement.{statement}
 use Rattle.counter.proofs.doors.begin.Tie as tie
 
-open-first-requires : tie.Need-open-first-requires
-open-first-requires c κs = search needs
-
-finished-requires : tie.Need-finished-requires
-finished-requires c κs = search needs
-
-same-length : tie.Need-same-length
-same-length c = search needs
-
-same-length-2 : tie.Need-same-length-2
-same-length-2 c = search needs
-
 returns : tie.Need-returns
 returns c =
     let opened = c .before .before .before .before .before .open-first in
@@ -32,4 +20,4 @@ returns c =
 
 pub begin-spec : {M : Type 1} → statement M
 begin-spec =
-    tie.close (tie.spec open-first-requires finished-requires same-length same-length-2 returns)
+    tie.close (tie.spec (λ c κs. search needs) (λ c κs. search needs) (λ c. search needs) (λ c. search needs) returns)

@@ -6,18 +6,6 @@ use borrow.Author.Needs.{needs}
 use Rattle.counter.proofs.doors.finished.Statement.{statement}
 use Rattle.counter.proofs.doors.finished.Tie as tie
 
-enum-told : tie.Need-enum-told
-enum-told c = search needs
-
-answer-of-requires : tie.Need-answer-of-requires
-answer-of-requires c κs = search needs
-
-enum-known-work : tie.Need-enum-known-work
-enum-known-work c = search needs
-
-refusal-of-requires : tie.Need-refusal-of-requires
-refusal-of-requires c κs = search needs
-
 returns : tie.Need-returns
 returns c =
     let s = c .before .before .before .args in
@@ -34,4 +22,4 @@ returns-2 c =
 pub finished-spec : {M : Type 1} → statement M
 finished-spec =
     tie.close
-    (tie.spec enum-told answer-of-requires enum-known-work refusal-of-requires returns returns-2)
+    (tie.spec (λ c. search needs) (λ c κs. search needs) (λ c. search needs) (λ c κs. search needs) returns returns-2)

@@ -11,9 +11,6 @@ use borrow.Author.Needs.{needs}
 use Rattle.counter.proofs.doors.map_part.Statement.{statement}
 use Rattle.counter.proofs.doors.map_part.Tie as tie
 
-part-of-requires : tie.Need-part-of-requires
-part-of-requires c κs = search needs
-
 -- the part lies in the image
 inside : (c : tie.After-part-of) → c .part-of .result .start + c .part-of .result .size ≤ length (c .before .before .args .image .now)
 inside c =
@@ -22,12 +19,6 @@ inside c =
 
 add-end : tie.Need-add-end
 add-end c = omega (arith, inside (c .before), c .before .before .before .good .0 .0)
-
-sub-result : tie.Need-sub-result
-sub-result c = search needs
-
-part-result-start : tie.Need-part-result-start
-part-result-start c = search needs
 
 part-result-end : tie.Need-part-result-end
 part-result-end c = inside (c .before)
@@ -47,4 +38,4 @@ returns c =
 pub map-part-spec : {M : Type 1} → statement M
 map-part-spec =
     tie.close
-    (tie.spec part-of-requires add-end sub-result part-result-start part-result-end returns)
+    (tie.spec (λ c κs. search needs) add-end (λ c. search needs) (λ c. search needs) part-result-end returns)

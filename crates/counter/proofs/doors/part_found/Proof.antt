@@ -7,18 +7,6 @@ use Rattle.counter.specs.Layout.{two}
 use Rattle.counter.proofs.doors.part_found.Statement.{statement}
 use Rattle.counter.proofs.doors.part_found.Tie as tie
 
-standing-of-requires : tie.Need-standing-of-requires
-standing-of-requires c κs = search needs
-
-enum-known-standing : tie.Need-enum-known-standing
-enum-known-standing c = search needs
-
-enum-told : tie.Need-enum-told
-enum-told c = search needs
-
-enum-told-2 : tie.Need-enum-told-2
-enum-told-2 c = search needs
-
 part-verdict-requires : tie.Need-part-verdict-requires
 part-verdict-requires c κs = sym (c .before .before .standing-of .ensures) ∙ c .enum-told2 .given .1
 
@@ -30,18 +18,15 @@ returns-2 : tie.Need-returns-2
 unfolding partVerdict
 returns-2 c = sym (guard-unmarked two _ _ _ (sym (c .before .before .standing-of .ensures) ∙ c .enum-told .given .1))
 
-returns-3 : tie.Need-returns-3
-returns-3 c = search needs
-
 pub part-found-spec : {M : Type 1} → statement M
 part-found-spec =
     tie.close
     (tie.spec
-    standing-of-requires
-    enum-known-standing
-    enum-told
-    enum-told-2
+    (λ c κs. search needs)
+    (λ c. search needs)
+    (λ c. search needs)
+    (λ c. search needs)
     part-verdict-requires
     returns
     returns-2
-    returns-3)
+    (λ c. search needs))

@@ -11,12 +11,6 @@ use Rattle.counter.specs.Layout.{two}
 use Rattle.counter.proofs.doors.part_of.Statement.{statement}
 use Rattle.counter.proofs.doors.part_of.Tie as tie
 
-part-found-requires : tie.Need-part-found-requires
-part-found-requires c κs = search needs
-
-enum-told : tie.Need-enum-told
-enum-told c = search needs
-
 -- what was found, where it is good
 found : (c : tie.After-enum-told) → let s = c .before .before .before .before .args in
     partVerdict two (places (s .m) (s .s) (s .e)) (s .image .now) (s .copy) ≡ Good (c .enum-told .given .0 .0) (c .enum-told .given .0 .1 .0)
@@ -28,23 +22,11 @@ good c = parted _ _ _ (found c)
 sub-t11 : tie.Need-sub-t11
 sub-t11 c = good c .first
 
-mul-t12 : tie.Need-mul-t12
-mul-t12 c = search needs
-
-add-t13 : tie.Need-add-t13
-add-t13 c = search needs
-
 add-t14 : tie.Need-add-t14
 add-t14 c =
     let inside = good c .inside in
     let size = c .before .before .before .before .good .0 .0 in
     omega arith
-
-enum-known-verdict : tie.Need-enum-known-verdict
-enum-known-verdict c = search needs
-
-refusal-of-requires : tie.Need-refusal-of-requires
-refusal-of-requires c κs = search needs
 
 returns : tie.Need-returns
 returns c = sym (part-good _ _ _ (found c))
@@ -58,13 +40,13 @@ pub part-of-spec : {M : Type 1} → statement M
 part-of-spec =
     tie.close
     (tie.spec
-    part-found-requires
-    enum-told
+    (λ c κs. search needs)
+    (λ c. search needs)
     sub-t11
-    mul-t12
-    add-t13
+    (λ c. search needs)
+    (λ c. search needs)
     add-t14
-    enum-known-verdict
-    refusal-of-requires
+    (λ c. search needs)
+    (λ c κs. search needs)
     returns
     returns-2)

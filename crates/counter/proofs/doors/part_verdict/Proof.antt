@@ -13,9 +13,6 @@ use Rattle.counter.proofs.Standings.{stands-marked, guard-marked}
 use Rattle.counter.proofs.doors.part_verdict.Statement.{statement}
 use Rattle.counter.proofs.doors.part_verdict.Tie as tie
 
-at-requires : tie.Need-at-requires
-at-requires c κs = search needs
-
 cells-requires : tie.Need-cells-requires
 cells-requires c κs = let placed = good-placed two _ _ (stands-marked two _ _ (c .before .before .pre) .1) in omega arith
 
@@ -35,36 +32,33 @@ tested : (c : tie.After-plainly-sound) → let s = c .before .before .before .be
     sound two (s .p) (pointerOf (mapIn two (s .p) (s .image .now))) ≡ c .plainly-sound .result
 tested c = rw (← map (c .before)) (sym (c .plainly-sound .ensures))
 
+abbrev start : tie.After-plainly-sound → tie.Start
+start c = c .before .before .before .before
+
 returns : tie.Need-returns
 unfolding partVerdict
 returns c =
-    sym (guard-marked two _ _ _ (c .before .before .before .before .before .pre) ∙ rw (tested (c .before) ∙ not-true _ (c .if1 .taken)))
+    sym (guard-marked two _ _ _ (start (c .before) .pre) ∙ rw (tested (c .before) ∙ not-true _ (c .if1 .taken)))
 
 returns-2 : tie.Need-returns-2
 unfolding partVerdict
 returns-2 c =
     let test = c .before in
-    sym
-    (guard-marked two _ _ _ (test .before .before .before .before .before .pre)
-    ∙ rw (tested (test .before) ∙ not-false _ (test .if1 .left), lt-leb _ _ (c .if2 .taken)))
+    sym (guard-marked two _ _ _ (start (test .before) .pre) ∙ rw (tested (test .before) ∙ not-false _ (test .if1 .left), lt-leb _ _ (c .if2 .taken)))
 
 returns-3 : tie.Need-returns-3
 unfolding partVerdict
 returns-3 c =
     let test = c .before .before in
-    sym
-    (guard-marked two _ _ _ (test .before .before .before .before .before .pre)
-    ∙ rw (tested (test .before) ∙ not-false _ (test .if1 .left), le-leb _ _ (c .before .if2 .left), lt-leb _ _ (c .if3 .taken)))
+    sym (guard-marked two _ _ _ (start (test .before) .pre) ∙ rw (tested (test .before) ∙ not-false _ (test .if1 .left), le-leb _ _ (c .before .if2 .left), lt-leb _ _ (c .if3 .taken)))
 
 returns-4 : tie.Need-returns-4
 unfolding partVerdict
 returns-4 c =
     let test = c .before .before in
-    sym
-    (guard-marked two _ _ _ (test .before .before .before .before .before .pre)
-    ∙ rw (tested (test .before) ∙ not-false _ (test .if1 .left), le-leb _ _ (c .before .if2 .left), le-leb _ _ (c .if3 .left)))
+    sym (guard-marked two _ _ _ (start (test .before) .pre) ∙ rw (tested (test .before) ∙ not-false _ (test .if1 .left), le-leb _ _ (c .before .if2 .left), le-leb _ _ (c .if3 .left)))
 
 pub part-verdict-spec : {M : Type 1} → statement M
 part-verdict-spec =
     tie.close
-    (tie.spec at-requires cells-requires plainly-sound-requires returns returns-2 returns-3 returns-4)
+    (tie.spec (λ c κs. search needs) cells-requires plainly-sound-requires returns returns-2 returns-3 returns-4)

@@ -7,15 +7,9 @@ use Rattle.counter.specs.Doors.{readOf}
 use Rattle.counter.proofs.doors.read.Statement.{statement}
 use Rattle.counter.proofs.doors.read.Tie as tie
 
-verdict-of-requires : tie.Need-verdict-of-requires
-verdict-of-requires c κs = search needs
-
-answer-of-requires : tie.Need-answer-of-requires
-answer-of-requires c κs = search needs
-
 returns : tie.Need-returns
 unfolding readOf
 returns c = c .answer-of .ensures ∙ ap (λ (v : Verdict). answerOf v 0 0) (c .before .verdict-of .ensures .0)
 
 pub read-spec : {M : Type 1} → statement M
-read-spec = tie.close (tie.spec verdict-of-requires answer-of-requires returns)
+read-spec = tie.close (tie.spec (λ c κs. search needs) (λ c κs. search needs) returns)

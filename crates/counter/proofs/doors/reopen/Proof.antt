@@ -16,18 +16,16 @@ use Rattle.counter.specs.Layout.{two}
 use Rattle.counter.proofs.doors.reopen.Statement.{statement}
 use Rattle.counter.proofs.doors.reopen.Tie as tie
 
+abbrev start : tie.After-examined → tie.Start
+start c = c .before .before .before .before
+
 examined-requires : tie.Need-examined-requires
 examined-requires c κs = let facts = stands-marked two _ _ (c .before .before .before .pre .1) in (facts .0, facts .1)
 
-enum-known-verdict : tie.Need-enum-known-verdict
-enum-known-verdict c = search needs
-
 -- the chip reads as a count
-good : (c : tie.After-known-told) → let s = c .before .before .before .before .before .before .before in
+good : (c : tie.After-known-told) → let s = start (c .before .before .before) in
     chipVerdict two (s .args .p) (chip (s .args .image .now) (s .args .lives .now)) ≡ Good (c .before .verdict .given .0 .0) (c .before .verdict .given .0 .1 .0)
-good c =
-    let s = c .before .before .before .before .before .before .before in
-    chip-examined two _ _ (s .pre .0) (s .pre .1) ∙ sym (c .before .before .before .examined .ensures .0) ∙ c .before .verdict .given .1
+good c = let s = start (c .before .before .before) in chip-examined two _ _ (s .pre .0) (s .pre .1) ∙ sym (c .before .before .before .examined .ensures .0) ∙ c .before .verdict .given .1
 
 settle-requires : tie.Need-settle-requires
 settle-requires c κs =
@@ -35,40 +33,22 @@ settle-requires c κs =
     let fit = good-settled two _ _ (good told) in
     (fit .0, fit .1, λ e. told .before .before .before .examined .ensures .1 e _ _ (told .before .verdict .given .1))
 
-finished-requires : tie.Need-finished-requires
-finished-requires c κs = search needs
-
-enum-known-verdict-2 : tie.Need-enum-known-verdict-2
-enum-known-verdict-2 c = search needs
-
-refusal-of-requires : tie.Need-refusal-of-requires
-refusal-of-requires c κs = search needs
-
-same-length : tie.Need-same-length
-same-length c = search needs
-
-same-length-2 : tie.Need-same-length-2
-same-length-2 c = search needs
-
 returns : tie.Need-returns
 returns c =
-    let stored = c .before .before .before .before .before .settle in
-    let told = c .before .before .before .before .before .before .before .before in
-    let s = told .before .before .before .before .before .before .before .args in
+    let call = c .before .before .before .before .before in
+    let told = call .before .before .before in
+    let s = start (told .before .before .before) .args in
     let count = told .before .verdict .given .0 .0 in
     let lag = told .before .verdict .given .0 .1 .0 in
     let exact = toZ-ofZ {w = w64} {z = lag} (record { sfits = told .known-told .given .1 .0 .1 }) in
-    ap (λ (a : Answer). outcome a (chip (stored .last .0) (stored .last .1 .0))) (c .finished .ensures)
-    ∙ outcome-ending (store two _ count _) (stored .ensures) _
+    ap (λ (a : Answer). outcome a (chip (call .settle .last .0) (call .settle .last .1 .0))) (c .finished .ensures)
+    ∙ outcome-ending (store two _ count _) (call .settle .ensures) _
     ∙ ap (λ (z : ℤ). outcomeOf (store two (s .p) count (chip (s .image .now) (s .lives .now)) endingIn Good count z)) exact
     ∙ ap outcomeOf (sym (settling-good two _ _ _ count lag (sym (told .before .before .before .examined .ensures .0) ∙ told .before .verdict .given .1)))
 
-same-length-3 : tie.Need-same-length-3
-same-length-3 c = search needs
-
 returns-2 : tie.Need-returns-2
 returns-2 c =
-    let s = c .before .before .before .before .before .before .before .before .args in
+    let s = start (c .before .before .before .before) .args in
     ap (λ (a : Answer). outcome a (chip (s .image .now) (s .lives .now))) (c .refusal-of .ensures)
     ∙ outcome-refused (settling-refused two _ _ _ _ (sym (c .before .before .before .before .examined .ensures .0) ∙ c .before .before .verdict2 .given .1))
 
@@ -77,13 +57,13 @@ reopen-spec =
     tie.close
     (tie.spec
     examined-requires
-    enum-known-verdict
+    (λ c. search needs)
     settle-requires
-    finished-requires
-    enum-known-verdict-2
-    refusal-of-requires
-    same-length
-    same-length-2
+    (λ c κs. search needs)
+    (λ c. search needs)
+    (λ c κs. search needs)
+    (λ c. search needs)
+    (λ c. search needs)
     returns
-    same-length-3
+    (λ c. search needs)
     returns-2)

@@ -18,9 +18,6 @@ use Rattle.counter.specs.Layout.{two}
 use Rattle.counter.proofs.doors.step.Statement.{statement}
 use Rattle.counter.proofs.doors.step.Tie as tie
 
-refusal-of-requires : tie.Need-refusal-of-requires
-refusal-of-requires c κs = search needs
-
 returns : tie.Need-returns
 unfolding stepOf
 returns c =
@@ -28,25 +25,16 @@ returns c =
     ap (λ (a : Answer). outcome a (chip (s .image .now) (s .lives .now))) (c .refusal-of .ensures)
     ∙ outcome-refused (step-unpaired two _ _ (c .before .if1 .taken))
 
-verdict-of-requires : tie.Need-verdict-of-requires
-verdict-of-requires c κs = search needs
+abbrev start : tie.After-verdict-of → tie.Start
+start c = c .before .before .before .before .before
 
 -- what the chip reads as
-reads : (c : tie.After-verdict-of) → let s = c .before .before .before .before .before .args in
+reads : (c : tie.After-verdict-of) → let s = start c .args in
     chipVerdict two (places (s .m) (s .s) (s .e)) (chip (s .image .now) (s .lives .now)) ≡ c .verdict-of .result .verdict
 reads c = chip-verdict two _ _ (c .before .before .if1 .left) ∙ sym (c .verdict-of .ensures .0)
 
-enum-known-verdict : tie.Need-enum-known-verdict
-enum-known-verdict c = search needs
-
-refusal-of-requires-2 : tie.Need-refusal-of-requires-2
-refusal-of-requires-2 c κs = search needs
-
-same-length : tie.Need-same-length
-same-length c = search needs
-
 -- it reads as a count
-good : (c : tie.After-known-told) → let s = c .before .before .before .before .before .before .before .before .args in
+good : (c : tie.After-known-told) → let s = start (c .before .before .before) .args in
     chipVerdict two (places (s .m) (s .s) (s .e)) (chip (s .image .now) (s .lives .now)) ≡ Good (c .before .verdict .given .0 .0) (c .before .verdict .given .0 .1 .0)
 good c = reads (c .before .before .before) ∙ c .before .verdict .given .1
 
@@ -54,7 +42,7 @@ returns-2 : tie.Need-returns-2
 unfolding stepOf
 returns-2 c =
     let told = c .before .before in
-    let s = told .before .before .before .before .before .before .before .before .args in
+    let s = start (told .before .before .before) .args in
     ap (λ (a : Answer). outcome a (chip (s .image .now) (s .lives .now))) (c .refusal-of2 .ensures)
     ∙ outcome-refused (step-last two _ _ _ _ (good told) (c .before .if2 .taken))
 
@@ -66,20 +54,7 @@ advance-requires : tie.Need-advance-requires
 advance-requires c κs =
     let told = c .before .before .before in
     let fit = good-settled two _ _ (good told) in
-    let small = verdict-good two _ _ (good told) .1 .small in
-    (fit .0, fit .1, below small (c .before .before .if2 .left), λ e. told .before .before .before .verdict-of .ensures .1 e _ _ (told .before .verdict .given .1))
-
-enum-known-verdict-2 : tie.Need-enum-known-verdict-2
-enum-known-verdict-2 c = search needs
-
-refusal-of-requires-3 : tie.Need-refusal-of-requires-3
-refusal-of-requires-3 c κs = search needs
-
-same-length-2 : tie.Need-same-length-2
-same-length-2 c = search needs
-
-same-length-3 : tie.Need-same-length-3
-same-length-3 c = search needs
+    (fit .0, fit .1, below (verdict-good two _ _ (good told) .1 .small) (c .before .before .if2 .left), λ e. told .before .before .before .verdict-of .ensures .1 e _ _ (told .before .verdict .given .1))
 
 returns-3 : tie.Need-returns-3
 unfolding stepOf
@@ -87,24 +62,19 @@ returns-3 c =
     let call = c .before .before .before .before in
     let if = call .before .before .before in
     let told = if .before in
-    let s = told .before .before .before .before .before .before .before .before .args in
-    let p = places (s .m) (s .s) (s .e) in
-    let lent = chip (s .image .now) (s .lives .now) in
+    let s = start (told .before .before .before) .args in
     let count = told .before .verdict .given .0 .0 in
     let lag = told .before .verdict .given .0 .1 .0 in
     let exact = toZ-ofZ {w = w64} {z = lag} (record { sfits = told .known-told .given .1 .0 .1 }) in
     call .advance .ensures
-    ∙ ap (λ (z : ℤ). outcomeOf (stepping two p count z lent)) exact
+    ∙ ap (λ (z : ℤ). outcomeOf (stepping two (places (s .m) (s .s) (s .e)) count z (chip (s .image .now) (s .lives .now)))) exact
     ∙ ap outcomeOf (sym (step-on two _ _ count lag (good told) (if .if2 .left)))
-
-same-length-4 : tie.Need-same-length-4
-same-length-4 c = search needs
 
 returns-4 : tie.Need-returns-4
 unfolding stepOf
 returns-4 c =
     let read = c .before .before .before .before in
-    let s = read .before .before .before .before .before .args in
+    let s = start read .args in
     ap (λ (a : Answer). outcome a (chip (s .image .now) (s .lives .now))) (c .refusal-of3 .ensures)
     ∙ outcome-refused (step-refused two _ _ _ (reads read ∙ c .before .before .verdict2 .given .1))
 
@@ -112,18 +82,18 @@ pub step-spec : {M : Type 1} → statement M
 step-spec =
     tie.close
     (tie.spec
-    refusal-of-requires
+    (λ c κs. search needs)
     returns
-    verdict-of-requires
-    enum-known-verdict
-    refusal-of-requires-2
-    same-length
+    (λ c κs. search needs)
+    (λ c. search needs)
+    (λ c κs. search needs)
+    (λ c. search needs)
     returns-2
     advance-requires
-    enum-known-verdict-2
-    refusal-of-requires-3
-    same-length-2
-    same-length-3
+    (λ c. search needs)
+    (λ c κs. search needs)
+    (λ c. search needs)
+    (λ c. search needs)
     returns-3
-    same-length-4
+    (λ c. search needs)
     returns-4)

@@ -15,37 +15,24 @@ use Rattle.counter.proofs.StoreCosts.{store-few}
 use Rattle.counter.proofs.doors.store_twice.Statement.{statement}
 use Rattle.counter.proofs.doors.store_twice.Tie as tie
 
-store-count-requires : tie.Need-store-count-requires
-store-count-requires c κs = search needs
+abbrev start : tie.After-store-count → tie.Start
+start c = c .before .before .before .before .before
 
-is-stopped-requires : tie.Need-is-stopped-requires
-is-stopped-requires c κs = search needs
-
-same-length : tie.Need-same-length
-same-length c = search needs
-
-same-length-2 : tie.Need-same-length-2
-same-length-2 c = search needs
+abbrev first : tie.After-is-stopped → tie.After-store-count
+first c = c .before .before .before .before .before
 
 returns : tie.Need-returns
-returns c = sym (said-stopped (store two _ _ _) (store two _ _) (c .before .before .before .before .before .before .store-count .ensures) (sym (c .before .is-stopped .ensures) ∙ c .if1 .taken))
+returns c = sym (said-stopped (store two _ _ _) (store two _ _) (first (c .before) .store-count .ensures) (sym (c .before .is-stopped .ensures) ∙ c .if1 .taken))
 
 -- the first store was not stopped
-done : (c : tie.Else1) → stopped (c .before .before .before .before .before .before .store-count .result .work) ≡ false
+done : (c : tie.Else1) → stopped (first (c .before) .store-count .result .work) ≡ false
 done c = sym (c .before .is-stopped .ensures) ∙ c .if1 .left
 
 -- and leaves the chip fit for the second
-settled : (c : tie.Else1) → let first = c .before .before .before .before .before .before in
-    let p = first .before .before .before .before .before .args .p in
-    let cells = first .store-count .last .0 in
-    (fitted two p (chip cells (first .store-count .last .1 .0)) ≡ true) × (sound two p (pointerOf (mapIn two p cells)) ≡ true)
-settled c =
-    let first = c .before .before .before .before .before .before in
-    let s = first .before .before .before .before .before in
-    store-settled two _ _ (s .pre .0) (s .pre .1) _ (first .store-count .ensures) (done c)
-
-add-store-count : tie.Need-add-store-count
-add-store-count c = search needs
+settled : (c : tie.Else1) → let p = start (first (c .before)) .args .p in
+    let cells = first (c .before) .store-count .last .0 in
+    (fitted two p (chip cells (first (c .before) .store-count .last .1 .0)) ≡ true) × (sound two p (pointerOf (mapIn two p cells)) ≡ true)
+settled c = let s = start (first (c .before)) in store-settled two _ _ (s .pre .0) (s .pre .1) _ (first (c .before) .store-count .ensures) (done c)
 
 store-count-requires-2 : tie.Need-store-count-requires-2
 store-count-requires-2 c κs = settled (c .before .before)
@@ -53,37 +40,31 @@ store-count-requires-2 c κs = settled (c .before .before)
 behind-requires : tie.Need-behind-requires
 behind-requires c κs =
     let second = c .before .before .before .before in
-    let first = second .before .before .before .before .before .before .before .before .before in
-    let s = first .before .before .before .before .before in
-    let fit = settled (second .before .before .before) in
-    let one = store-few two _ _ _ (s .pre .0) (s .pre .1) (first .store-count .ensures) in
-    let other = store-few two _ _ _ (fit .0) (fit .1) (second .store-count2 .ensures) in
+    let other = second .before .before .before in
+    let s = start (first (other .before)) in
+    let fit = settled other in
+    let one = store-few two _ _ _ (s .pre .0) (s .pre .1) (first (other .before) .store-count .ensures) in
+    let rest = store-few two _ _ _ (fit .0) (fit .1) (second .store-count2 .ensures) in
     (omega arith, omega arith, omega arith, omega arith)
-
-same-length-3 : tie.Need-same-length-3
-same-length-3 c = search needs
-
-same-length-4 : tie.Need-same-length-4
-same-length-4 c = search needs
 
 returns-2 : tie.Need-returns-2
 returns-2 c =
     let second = c .before .before .before .before .before in
-    let first = second .before .before .before .before .before .before .before .before .before .store-count in
-    c .behind .ensures _ ∙ behind-done (store two _ _ _) (store two _ _) (first .ensures) (done (second .before .before .before)) (second .store-count2 .ensures)
+    let other = second .before .before .before in
+    c .behind .ensures _ ∙ behind-done (store two _ _ _) (store two _ _) (first (other .before) .store-count .ensures) (done other) (second .store-count2 .ensures)
 
 pub store-twice-spec : {M : Type 1} → statement M
 store-twice-spec =
     tie.close
     (tie.spec
-    store-count-requires
-    is-stopped-requires
-    same-length
-    same-length-2
+    (λ c κs. search needs)
+    (λ c κs. search needs)
+    (λ c. search needs)
+    (λ c. search needs)
     returns
-    add-store-count
+    (λ c. search needs)
     store-count-requires-2
     behind-requires
-    same-length-3
-    same-length-4
+    (λ c. search needs)
+    (λ c. search needs)
     returns-2)

@@ -5,15 +5,9 @@ use Rattle.counter.specs.Map.{marked}
 use Rattle.counter.proofs.map.is_marked.Statement.{statement}
 use Rattle.counter.proofs.map.is_marked.Tie as tie
 
-shared-slice-read-if1 : tie.Need-shared-slice-read-if1
-shared-slice-read-if1 c = search needs
-
 returns : tie.Need-returns
 unfolding marked
 returns c = rw (ne-eqb _ _ (c .if1 .taken))
-
-shared-slice-read-if2 : tie.Need-shared-slice-read-if2
-shared-slice-read-if2 c = search needs
 
 returns-2 : tie.Need-returns-2
 unfolding marked
@@ -24,4 +18,4 @@ unfolding marked
 returns-3 c = rw (eq-eqb _ _ (c .before .before .if1 .left), eq-eqb _ _ (c .if2 .left))
 
 pub is-marked-spec : {M : Type 1} → statement M
-is-marked-spec = tie.close (tie.spec shared-slice-read-if1 returns shared-slice-read-if2 returns-2 returns-3)
+is-marked-spec = tie.close (tie.spec (λ c. search needs) returns (λ c. search needs) returns-2 returns-3)

@@ -20,24 +20,6 @@ Inv-loop map pointers₀ slot₀ pointers slot =
 abbrev μ-loop : tie.MeasureT-loop
 μ-loop map pointers₀ slot₀ pointers slot = 16 - slot
 
-loop-holds : tie.Need-loop-holds Inv-loop μ-loop
-loop-holds c = search needs
-
-pointer-of-requires : tie.Need-pointer-of-requires Inv-loop μ-loop
-pointer-of-requires c κs = search needs
-
-mul-pointers : tie.Need-mul-pointers Inv-loop μ-loop
-mul-pointers c = search needs
-
-array-write-pointers : tie.Need-array-write-pointers Inv-loop μ-loop
-array-write-pointers c = search needs
-
-add-slot : tie.Need-add-slot Inv-loop μ-loop
-add-slot c = search needs
-
-loop-less : tie.Need-loop-less Inv-loop μ-loop
-loop-less c = search needs
-
 loop-again : tie.Need-loop-again Inv-loop μ-loop
 loop-again c =
     let loop = c .before .before .loop in
@@ -61,11 +43,11 @@ pointers-of-spec =
     (tie.spec
     Inv-loop
     μ-loop
-    loop-holds
-    pointer-of-requires
-    mul-pointers
-    array-write-pointers
-    add-slot
-    loop-less
+    (λ c. search needs)
+    (λ c κs. search needs)
+    (λ c. search needs)
+    (λ c. search needs)
+    (λ c. search needs)
+    (λ c. search needs)
     loop-again
     returns)

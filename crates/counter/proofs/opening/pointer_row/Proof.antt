@@ -31,63 +31,32 @@ abbrev μ-loop : tie.MeasureT-loop
 loop-holds : tie.Need-loop-holds Inv-loop μ-loop
 loop-holds c = record { most = omega arith; size = refl; rest = laid-none _ _ }
 
-offset-of-requires : tie.Need-offset-of-requires Inv-loop μ-loop
-offset-of-requires c κs = search needs
-
 sub-at : tie.Need-sub-at Inv-loop μ-loop
 sub-at c = rw (c .offset-of .ensures) (offset-first _)
 
-mul-a : tie.Need-mul-a Inv-loop μ-loop
-mul-a c = search needs
-
-element-copy-out-a : tie.Need-element-copy-out-a Inv-loop μ-loop
-element-copy-out-a c = search needs
-
-cast-bytes : tie.Need-cast-bytes Inv-loop μ-loop
-cast-bytes c = search needs
-
 array-write-bytes : tie.Need-array-write-bytes Inv-loop μ-loop
 array-write-bytes c =
-    let at = c .before .offset-of .ensures in
-    let inside = offset-inside two (c .before .before .before .loop .slot) (c .before .before .loop-test .taken) in
-    let some = bytes-some (kindOf (c .before .before .before .loop .slot)) in
-    omega arith
+    let slot = c .before .before .before .loop .slot in
+    omega (arith, c .before .offset-of .ensures, offset-inside two slot (c .before .before .loop-test .taken), bytes-some (kindOf slot))
 
 cast-bytes-2 : tie.Need-cast-bytes-2 Inv-loop μ-loop
-cast-bytes-2 c =
-    let small = c .before .before .before .before .before .pre .1 (c .before .before .before .before .loop .slot) (c .before .before .before .loop-test .taken) .0 in
-    omega arith
-
-add-bytes : tie.Need-add-bytes Inv-loop μ-loop
-add-bytes c =
-    let at = c .before .before .offset-of .ensures in
-    let inside = low-inside two (c .before .before .before .before .loop .slot) (c .before .before .before .loop-test .taken) (c .if1 .taken) in
-    omega arith
+cast-bytes-2 c = let loop = c .before .before .before .before in omega (arith, loop .before .pre .1 (loop .loop .slot) (c .before .before .before .loop-test .taken) .0)
 
 array-write-bytes-2 : tie.Need-array-write-bytes-2 Inv-loop μ-loop
-array-write-bytes-2 c =
-    let at = c .before .before .offset-of .ensures in
-    let inside = low-inside two (c .before .before .before .before .loop .slot) (c .before .before .before .loop-test .taken) (c .if1 .taken) in
-    omega arith
-
-add-slot : tie.Need-add-slot Inv-loop μ-loop
-add-slot c = search needs
-
-loop-less : tie.Need-loop-less Inv-loop μ-loop
-loop-less c = search needs
+array-write-bytes-2 c = omega (arith, c .before .before .offset-of .ensures, low-inside two (c .before .before .before .before .loop .slot) (c .before .before .before .loop-test .taken) (c .if1 .taken))
 
 -- the bytes of one more slot are laid
 laid-turn : (c : tie.Joined1 Inv-loop μ-loop)
-    → let loop = c .before .before .before .before .loop in
-    let addresses = now (c .before .before .before .before .before .args .addresses) in
-    (length (c .if1 .bytes) ≡ 22) × (laid addresses (loop .bytes) (loop .slot) ≡ laid addresses (c .if1 .bytes) (loop .slot + 1))
+    → let turn = c .before .before .before .before in
+    let addresses = now (turn .before .args .addresses) in
+    (length (c .if1 .bytes) ≡ 22) × (laid addresses (turn .loop .bytes) (turn .loop .slot) ≡ laid addresses (c .if1 .bytes) (turn .loop .slot + 1))
 laid-turn c =
-    let start = c .before .before .before .before .before in
-    let loop = c .before .before .before .before .loop in
+    let turn = c .before .before .before .before in
+    let start = turn .before in
+    let loop = turn .loop in
     let test = c .before .before .before .loop-test .taken in
     let at = c .before .before .offset-of .ensures in
     let size = loop .inv .size in
-    let many = start .pre .0 in
     let inside : loop .slot < length (now (start .args .addresses)) = omega arith in
     ⊎-elim
     (λ x.
@@ -120,16 +89,16 @@ pointer-row-spec =
     Inv-loop
     μ-loop
     loop-holds
-    offset-of-requires
+    (λ c κs. search needs)
     sub-at
-    mul-a
-    element-copy-out-a
-    cast-bytes
+    (λ c. search needs)
+    (λ c. search needs)
+    (λ c. search needs)
     array-write-bytes
     cast-bytes-2
-    add-bytes
+    (λ c. search needs)
     array-write-bytes-2
-    add-slot
-    loop-less
+    (λ c. search needs)
+    (λ c. search needs)
     loop-again
     returns)

@@ -17,12 +17,6 @@ returns-2 c = sym (not-placed two _ _ (λ g. omega arith))
 returns-3 : tie.Need-returns-3
 returns-3 c = sym (not-placed two _ _ (λ g. omega arith))
 
-sub-if4 : tie.Need-sub-if4
-sub-if4 c = search needs
-
-add-if4 : tie.Need-add-if4
-add-if4 c = search needs
-
 returns-4 : tie.Need-returns-4
 returns-4 c = sym (not-placed two _ _ (λ g. omega arith))
 
@@ -74,8 +68,8 @@ places-good-spec =
     returns
     returns-2
     returns-3
-    sub-if4
-    add-if4
+    (λ c. search needs)
+    (λ c. search needs)
     returns-4
     returns-5
     returns-6

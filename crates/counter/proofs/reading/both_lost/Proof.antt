@@ -6,21 +6,9 @@ use Rattle.code.specs.Entries.{readingAt}
 use Rattle.counter.proofs.reading.both_lost.Statement.{statement}
 use Rattle.counter.proofs.reading.both_lost.Tie as tie
 
-reading-at-requires : tie.Need-reading-at-requires
-reading-at-requires c κs = search needs
-
-is-lost-requires : tie.Need-is-lost-requires
-is-lost-requires c κs = search needs
-
 -- what was tested
 first : (c : tie.After-is-lost) → isLost (readingAt (c .before .before .args .a)) ≡ c .is-lost .result
 first c = ap isLost (sym (c .before .reading-at .ensures)) ∙ sym (c .is-lost .ensures)
-
-reading-at-requires-2 : tie.Need-reading-at-requires-2
-reading-at-requires-2 c κs = search needs
-
-is-lost-requires-2 : tie.Need-is-lost-requires-2
-is-lost-requires-2 c κs = search needs
 
 returns : tie.Need-returns
 returns c =
@@ -34,9 +22,9 @@ pub both-lost-spec : {M : Type 1} → statement M
 both-lost-spec =
     tie.close
     (tie.spec
-    reading-at-requires
-    is-lost-requires
-    reading-at-requires-2
-    is-lost-requires-2
+    (λ c κs. search needs)
+    (λ c κs. search needs)
+    (λ c κs. search needs)
+    (λ c κs. search needs)
     returns
     returns-2)

@@ -5,9 +5,6 @@ use borrow.Author.Needs.{needs}
 use Rattle.counter.proofs.reading.byte_of.Statement.{statement}
 use Rattle.counter.proofs.reading.byte_of.Tie as tie
 
-pointer-of-requires : tie.Need-pointer-of-requires
-pointer-of-requires c κs = search needs
-
 shared-slice-read-result : tie.Need-shared-slice-read-result
 shared-slice-read-result c =
     let s = c .before .before .before .before in
@@ -17,4 +14,4 @@ returns : tie.Need-returns
 returns c = ap (λ a. getD (c .before .before .before .before .args .image .now) a 0) (c .before .pointer-of .ensures .0)
 
 pub byte-of-spec : {M : Type 1} → statement M
-byte-of-spec = tie.close (tie.spec pointer-of-requires shared-slice-read-result returns)
+byte-of-spec = tie.close (tie.spec (λ c κs. search needs) shared-slice-read-result returns)

@@ -24,27 +24,18 @@ abbrev μ-loop : tie.MeasureT-loop
 loop-holds : tie.Need-loop-holds Inv-loop μ-loop
 loop-holds c = record { most = omega arith; size = refl; each = λ k l. absurd (omega arith) }
 
-byte-of-requires : tie.Need-byte-of-requires Inv-loop μ-loop
-byte-of-requires c κs = (c .before .before .before .before .pre, omega arith)
-
 array-write-data : tie.Need-array-write-data Inv-loop μ-loop
 array-write-data c = omega arith
 
-add-slot : tie.Need-add-slot Inv-loop μ-loop
-add-slot c = search needs
-
-loop-less : tie.Need-loop-less Inv-loop μ-loop
-loop-less c = search needs
-
 loop-again : tie.Need-loop-again Inv-loop μ-loop
 loop-again c =
-    let loop = c .before .before .loop in
-    let s = c .before .before .before .before .before .args in
+    let loop = c .before .before in
+    let s = loop .before .before .before .args in
     record {
       most = omega arith;
-      size = simp length-set (loop .inv .size);
+      size = simp length-set (loop .loop .inv .size);
       each =
-          all-set (λ k x. x ≡ dataAt (s .image .now) (s .map .now) k) (loop .«data») (loop .slot) _ (omega arith) (loop .inv .each)
+          all-set (λ k x. x ≡ dataAt (s .image .now) (s .map .now) k) (loop .loop .«data») (loop .loop .slot) _ (omega arith) (loop .loop .inv .each)
           (c .byte-of .ensures);
     }
 
@@ -58,9 +49,9 @@ data-of-spec =
     Inv-loop
     μ-loop
     loop-holds
-    byte-of-requires
+    (λ c κs. search needs)
     array-write-data
-    add-slot
-    loop-less
+    (λ c. search needs)
+    (λ c. search needs)
     loop-again
     returns)

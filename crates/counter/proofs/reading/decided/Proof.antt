@@ -10,12 +10,6 @@ use Rattle.counter.proofs.Lags.{lag-exact, lag-fits, lag-bits, decide-l
 use Rattle.counter.proofs.reading.decided.Statement.{statement}
 use Rattle.counter.proofs.reading.decided.Tie as tie
 
-cast-lag : tie.Need-cast-lag
-cast-lag c = search needs
-
-cast-lag-2 : tie.Need-cast-lag-2
-cast-lag-2 c = search needs
-
 sub-lag : tie.Need-sub-lag
 sub-lag c = lag-fits _ _ (c .fits .first .fits) (c .fits .second .fits)
 
@@ -40,4 +34,4 @@ returns-3 c =
     ∙ sym (decide-apart _ _ (λ e. c .before .if1 .left (ap (ofZ w64) (exact ∙ e))) (λ e. c .if2 .left (ap (ofZ w64) (exact ∙ e))))
 
 pub decided-spec : {M : Type 1} → statement M
-decided-spec = tie.close (tie.spec cast-lag cast-lag-2 sub-lag returns returns-2 returns-3)
+decided-spec = tie.close (tie.spec (λ c. search needs) (λ c. search needs) sub-lag returns returns-2 returns-3)

@@ -14,9 +14,6 @@ use Rattle.counter.specs.Layout.{two}
 use Rattle.counter.proofs.reading.examined.Statement.{statement}
 use Rattle.counter.proofs.reading.examined.Tie as tie
 
-at-requires : tie.Need-at-requires
-at-requires c κs = search needs
-
 cells-requires : tie.Need-cells-requires
 cells-requires c κs = let placed = good-placed two _ _ (c .before .before .pre .1) in omega arith
 
@@ -46,9 +43,9 @@ returns c = (rw (tested (c .before) ∙ not-true _ (c .if1 .taken)), λ e. absur
 
 found-in-requires : tie.Need-found-in-requires
 found-in-requires c κs =
-    let placed = good-placed two _ _ (c .before .before .before .before .before .pre .1) in
+    let cells = c .before .before in
     let facts = test-sound two _ _ (sym (c .before .is-sound .ensures) ∙ not-false _ (c .if1 .left)) in
-    (whole (c .before .before), λ k l. let inside = facts .inside k l .to in omega arith)
+    (whole cells, λ k l. omega (arith, good-placed two _ _ (cells .before .before .before .pre .1), facts .inside k l .to))
 
 returns-2 : tie.Need-returns-2
 unfolding examine
@@ -60,7 +57,7 @@ pub examined-spec : {M : Type 1} → statement M
 examined-spec =
     tie.close
     (tie.spec
-    at-requires
+    (λ c κs. search needs)
     cells-requires
     is-sound-requires
     returns

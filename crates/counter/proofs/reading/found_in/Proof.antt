@@ -14,30 +14,18 @@ use Rattle.counter.specs.Layout.{two}
 use Rattle.counter.proofs.reading.found_in.Statement.{statement}
 use Rattle.counter.proofs.reading.found_in.Tie as tie
 
-plain-word-requires : tie.Need-plain-word-requires
-plain-word-requires c κs = search needs
-
-count-of-requires : tie.Need-count-of-requires
-count-of-requires c κs = search needs
-
 returns : tie.Need-returns
 returns c =
-    let plain = c .before .before .plain-word in
-    let word = plain .result .word in
-    let s = c .before .before .before .before .before .args in
+    let plain = c .before .before in
+    let word = plain .plain-word .result .word in
+    let s = plain .before .before .before .args in
     let byte : ℕ → ℕ = dataAt (s .image .now) (s .map .now) in
-    let facts = plain .ensures (c .before .if1 .taken) in
+    let facts = plain .plain-word .ensures (c .before .if1 .taken) in
     let fits : word < 2 ^ 32 = search needs in
     let count = c .count-of .ensures in
     let held : (k : ℕ) → k < 16 → byte k ≡ slotCode (c .count-of .result) k = λ k l. plain-held byte word fits facts k l ∙ ap (λ (x : ℕ). slotCode x k) (sym count) in
     let small : c .count-of .result < 4294967296 = rw count (count-small word fits) in
     (sym (weigh-exact two {byte = byte} small held (omega arith)), λ e d lag q k l. held k l ∙ ap (λ (x : ℕ). slotCode x k) (cc))
-
-data-of-requires : tie.Need-data-of-requires
-data-of-requires c κs = search needs
-
-weighed-requires : tie.Need-weighed-requires
-weighed-requires c κs = search needs
 
 returns-2 : tie.Need-returns-2
 returns-2 c = (c .weighed .ensures ∙ weigh-same _ _ (c .before .before .data-of .ensures), λ e. absurd (false≢true e))
@@ -46,9 +34,9 @@ pub found-in-spec : {M : Type 1} → statement M
 found-in-spec =
     tie.close
     (tie.spec
-    plain-word-requires
-    count-of-requires
+    (λ c κs. search needs)
+    (λ c κs. search needs)
     returns
-    data-of-requires
-    weighed-requires
+    (λ c κs. search needs)
+    (λ c κs. search needs)
     returns-2)

@@ -6,18 +6,6 @@ use Rattle.counter.specs.Inside.{amiss}
 use Rattle.counter.proofs.reading.is_amiss.Statement.{statement}
 use Rattle.counter.proofs.reading.is_amiss.Tie as tie
 
-enum-told : tie.Need-enum-told
-enum-told c = search needs
-
-one-twofold-requires : tie.Need-one-twofold-requires
-one-twofold-requires c κs = search needs
-
-enum-told-2 : tie.Need-enum-told-2
-enum-told-2 c = search needs
-
-both-lost-requires : tie.Need-both-lost-requires
-both-lost-requires c κs = search needs
-
 returns : tie.Need-returns
 returns c =
     let s = c .before .before .before .args in
@@ -31,4 +19,4 @@ returns-2 c =
 pub is-amiss-spec : {M : Type 1} → statement M
 is-amiss-spec =
     tie.close
-    (tie.spec enum-told one-twofold-requires enum-told-2 both-lost-requires returns returns-2)
+    (tie.spec (λ c. search needs) (λ c κs. search needs) (λ c. search needs) (λ c κs. search needs) returns returns-2)

@@ -23,28 +23,10 @@ abbrev μ-loop : tie.MeasureT-loop
 loop-holds : tie.Need-loop-holds Inv-loop μ-loop
 loop-holds c = record { most = omega arith; rest = refl }
 
-element-copy-out-is-amiss : tie.Need-element-copy-out-is-amiss Inv-loop μ-loop
-element-copy-out-is-amiss c = search needs
-
-add-is-amiss : tie.Need-add-is-amiss Inv-loop μ-loop
-add-is-amiss c = search needs
-
-element-copy-out-is-amiss-2 : tie.Need-element-copy-out-is-amiss-2 Inv-loop μ-loop
-element-copy-out-is-amiss-2 c = search needs
-
-is-amiss-requires : tie.Need-is-amiss-requires Inv-loop μ-loop
-is-amiss-requires c κs = search needs
-
 returns : tie.Need-returns Inv-loop μ-loop
 returns c =
     let test = c .before .before .before .before in
     sym (test .before .loop .inv .rest ∙ lowest-here 8 _ _ (test .loop-test .taken) (sym (c .before .is-amiss .ensures) ∙ c .if1 .taken))
-
-add-n : tie.Need-add-n Inv-loop μ-loop
-add-n c = search needs
-
-loop-less : tie.Need-loop-less Inv-loop μ-loop
-loop-less c = search needs
 
 loop-again : tie.Need-loop-again Inv-loop μ-loop
 loop-again c =
@@ -68,12 +50,12 @@ lowest-amiss-spec =
     Inv-loop
     μ-loop
     loop-holds
-    element-copy-out-is-amiss
-    add-is-amiss
-    element-copy-out-is-amiss-2
-    is-amiss-requires
+    (λ c. search needs)
+    (λ c. search needs)
+    (λ c. search needs)
+    (λ c κs. search needs)
     returns
-    add-n
-    loop-less
+    (λ c. search needs)
+    (λ c. search needs)
     loop-again
     returns-2)

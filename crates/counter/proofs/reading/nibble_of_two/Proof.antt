@@ -6,32 +6,14 @@ use Rattle.code.specs.Entries.{readingAt}
 use Rattle.counter.proofs.reading.nibble_of_two.Statement.{statement}
 use Rattle.counter.proofs.reading.nibble_of_two.Tie as tie
 
-reading-at-requires : tie.Need-reading-at-requires
-reading-at-requires c κs = search needs
-
-is-lost-requires : tie.Need-is-lost-requires
-is-lost-requires c κs = search needs
-
 -- what was tested
 own : (c : tie.After-is-lost) → isLost (readingAt (c .before .before .args .own)) ≡ c .is-lost .result
 own c = ap isLost (sym (c .before .reading-at .ensures)) ∙ sym (c .is-lost .ensures)
-
-reading-at-requires-2 : tie.Need-reading-at-requires-2
-reading-at-requires-2 c κs = search needs
-
-nibble-read-requires : tie.Need-nibble-read-requires
-nibble-read-requires c κs = search needs
 
 returns : tie.Need-returns
 returns c =
     rw (own (c .before .before .before) ∙ c .before .before .if1 .taken)
     (c .nibble-read .ensures ∙ ap nibbleRead (c .before .reading-at2 .ensures))
-
-reading-at-requires-3 : tie.Need-reading-at-requires-3
-reading-at-requires-3 c κs = search needs
-
-nibble-read-requires-2 : tie.Need-nibble-read-requires-2
-nibble-read-requires-2 c κs = search needs
 
 returns-2 : tie.Need-returns-2
 returns-2 c =
@@ -42,11 +24,11 @@ pub nibble-of-two-spec : {M : Type 1} → statement M
 nibble-of-two-spec =
     tie.close
     (tie.spec
-    reading-at-requires
-    is-lost-requires
-    reading-at-requires-2
-    nibble-read-requires
+    (λ c κs. search needs)
+    (λ c κs. search needs)
+    (λ c κs. search needs)
+    (λ c κs. search needs)
     returns
-    reading-at-requires-3
-    nibble-read-requires-2
+    (λ c κs. search needs)
+    (λ c κs. search needs)
     returns-2)

@@ -29,9 +29,6 @@ Inv-loop image map table word₀ apart₀ seen₀ n₀ word apart seen n =
 abbrev μ-loop : tie.MeasureT-loop
 μ-loop image map table word₀ apart₀ seen₀ n₀ word apart seen n = 8 - n
 
-laid-requires : tie.Need-laid-requires Inv-loop μ-loop
-laid-requires c κs = search needs
-
 loop-holds : tie.Need-loop-holds Inv-loop μ-loop
 loop-holds c =
     record {
@@ -40,50 +37,18 @@ loop-holds c =
       plain = λ same clean. (omega arith, λ k l. absurd (omega arith));
     }
 
-byte-of-requires : tie.Need-byte-of-requires Inv-loop μ-loop
-byte-of-requires c κs = (c .before .before .before .before .before .pre, omega arith)
-
-wide-requires : tie.Need-wide-requires Inv-loop μ-loop
-wide-requires c κs = search needs
-
-array-read-entry : tie.Need-array-read-entry Inv-loop μ-loop
-array-read-entry c = search needs
-
-add-byte-of : tie.Need-add-byte-of Inv-loop μ-loop
-add-byte-of c = search needs
-
-byte-of-requires-2 : tie.Need-byte-of-requires-2 Inv-loop μ-loop
-byte-of-requires-2 c κs = (c .before .before .before .before .before .before .before .pre, omega arith)
-
-cast-word : tie.Need-cast-word Inv-loop μ-loop
-cast-word c = search needs
-
-mul-word : tie.Need-mul-word Inv-loop μ-loop
-mul-word c = search needs
-
-cast-word-2 : tie.Need-cast-word-2 Inv-loop μ-loop
-cast-word-2 c = search needs
-
-shl-word : tie.Need-shl-word Inv-loop μ-loop
-shl-word c = search needs
-
-add-n : tie.Need-add-n Inv-loop μ-loop
-add-n c = search needs
-
-loop-less : tie.Need-loop-less Inv-loop μ-loop
-loop-less c = search needs
-
 loop-again : tie.Need-loop-again Inv-loop μ-loop
 loop-again c =
     let wide = c .before .wide in
     let other = c .byte-of2 in
     let own = c .before .before .byte-of in
-    let loop = c .before .before .before .before .loop in
-    let s = c .before .before .before .before .before .before .before .before .args in
+    let at = c .before .before .before .before in
+    let loop = at .loop in
+    let s = at .before .before .before .before .args in
     let byte : ℕ → ℕ = dataAt (s .image .now) (s .map .now) in
     let read : wide .result ≡ byte (loop .n) = wide .ensures .0 ∙ own .ensures in
     let small : byte (loop .n) < 256 = rw (← read) (wide .ensures .1) in
-    let found = getD (c .before .before .before .before .before .laid .result) (wide .result) 0 in
+    let found = getD (at .before .laid .result) (wide .result) 0 in
     let entry : found ≡ entryOf (byte (loop .n)) = loop .inv .rule (wide .result) (wide .ensures .1) ∙ ap entryOf read in
     let differ = bitXor (own .result) (other .result) in
     record {
@@ -91,13 +56,10 @@ loop-again c =
       rule = loop .inv .rule;
       plain =
           λ same clean.
-          let a = or-left (loop .apart) differ in
-          let b = or-right (loop .apart) differ in
-          let d = or-left (loop .seen) found in
-          let e = or-right (loop .seen) found in
-          let equal : own .result ≡ other .result = xor-none _ _ (omega (arith, b, same)) in
-          let low : found < 16 = omega (arith, e, clean) in
-          plain-more byte (loop .word) found (loop .n) (loop .inv .plain (omega (arith, a, same)) (omega (arith, d, clean))) (omega arith) low
+          let equal : own .result ≡ other .result = xor-none _ _ (omega (arith, or-right (loop .apart) differ, same)) in
+          let low : found < 16 = omega (arith, or-right (loop .seen) found, clean) in
+          let before = loop .inv .plain (omega (arith, or-left (loop .apart) differ, same)) (omega (arith, or-left (loop .seen) found, clean)) in
+          plain-more byte (loop .word) found (loop .n) before (omega arith) low
           (clean-code (byte (loop .n)) small (rw entry at low) ∙ ap codeOf (sym entry))
           (sym (other .ensures) ∙ sym equal ∙ own .ensures);
     }
@@ -114,19 +76,19 @@ plain-word-spec =
     (tie.spec
     Inv-loop
     μ-loop
-    laid-requires
+    (λ c κs. search needs)
     loop-holds
-    byte-of-requires
-    wide-requires
-    array-read-entry
-    add-byte-of
-    byte-of-requires-2
-    cast-word
-    mul-word
-    cast-word-2
-    shl-word
-    add-n
-    loop-less
+    (λ c κs. search needs)
+    (λ c κs. search needs)
+    (λ c. search needs)
+    (λ c. search needs)
+    (λ c κs. search needs)
+    (λ c. search needs)
+    (λ c. search needs)
+    (λ c. search needs)
+    (λ c. search needs)
+    (λ c. search needs)
+    (λ c. search needs)
     loop-again
     returns
     returns-2)

@@ -8,18 +8,6 @@ use Rattle.counter.specs.Layout.{two}
 use Rattle.counter.proofs.reading.verdict_of.Statement.{statement}
 use Rattle.counter.proofs.reading.verdict_of.Tie as tie
 
-standing-of-requires : tie.Need-standing-of-requires
-standing-of-requires c κs = search needs
-
-enum-known-standing : tie.Need-enum-known-standing
-enum-known-standing c = search needs
-
-enum-told : tie.Need-enum-told
-enum-told c = search needs
-
-enum-told-2 : tie.Need-enum-told-2
-enum-told-2 c = search needs
-
 examined-requires : tie.Need-examined-requires
 examined-requires c κs =
     let facts = stands-marked two _ _ (sym (c .before .before .standing-of .ensures) ∙ c .enum-told2 .given .1) in
@@ -42,10 +30,10 @@ pub verdict-of-spec : {M : Type 1} → statement M
 verdict-of-spec =
     tie.close
     (tie.spec
-    standing-of-requires
-    enum-known-standing
-    enum-told
-    enum-told-2
+    (λ c κs. search needs)
+    (λ c. search needs)
+    (λ c. search needs)
+    (λ c. search needs)
     examined-requires
     returns
     returns-2

@@ -26,15 +26,9 @@ Inv-loop map pointers slot₀ slot = record { most : slot ≤ 16; all : every sl
 abbrev μ-loop : tie.MeasureT-loop
 μ-loop map pointers slot₀ slot = 16 - slot
 
-pointers-of-requires : tie.Need-pointers-of-requires Inv-loop μ-loop
-pointers-of-requires c κs = search needs
-
 loop-holds : tie.Need-loop-holds Inv-loop μ-loop
 unfolding every
 loop-holds c = record { most = omega arith; all = refl }
-
-is-new-requires : tie.Need-is-new-requires Inv-loop μ-loop
-is-new-requires c κs = search needs
 
 returns : tie.Need-returns Inv-loop μ-loop
 returns c =
@@ -42,12 +36,6 @@ returns c =
     sym
     (sym (new-same _ _ (test .before .before .pointers-of .ensures))
     ∙ every-not 16 _ (test .before .loop .slot) (test .loop-test .taken) (sym (c .before .is-new .ensures) ∙ not-true _ (c .if1 .taken)))
-
-add-slot : tie.Need-add-slot Inv-loop μ-loop
-add-slot c = search needs
-
-loop-less : tie.Need-loop-less Inv-loop μ-loop
-loop-less c = search needs
 
 loop-again : tie.Need-loop-again Inv-loop μ-loop
 loop-again c =
@@ -69,11 +57,11 @@ all-differ-spec =
     (tie.spec
     Inv-loop
     μ-loop
-    pointers-of-requires
+    (λ c κs. search needs)
     loop-holds
-    is-new-requires
+    (λ c κs. search needs)
     returns
-    add-slot
-    loop-less
+    (λ c. search needs)
+    (λ c. search needs)
     loop-again
     returns-2)

@@ -39,39 +39,18 @@ loop-holds c =
       marks = marks-same (marks-none _ _ (λ k o. absurd (omega (arith, o .1, o .2)))) (λ k o. o) (omega arith);
     }
 
-pointer-of-requires : tie.Need-pointer-of-requires Inv-loop μ-loop
-pointer-of-requires c κs = search needs
-
-with-bit-requires : tie.Need-with-bit-requires Inv-loop μ-loop
-with-bit-requires c κs = (c .pointer-of .ensures .1, c .before .before .before .before .pre .3)
-
-add-pointer-of : tie.Need-add-pointer-of Inv-loop μ-loop
-add-pointer-of c = search needs
-
-pointer-of-requires-2 : tie.Need-pointer-of-requires-2 Inv-loop μ-loop
-pointer-of-requires-2 c κs = search needs
-
-with-bit-requires-2 : tie.Need-with-bit-requires-2 Inv-loop μ-loop
-with-bit-requires-2 c κs = (c .pointer-of2 .ensures .1, c .before .before .before .before .before .before .pre .3)
-
-add-n : tie.Need-add-n Inv-loop μ-loop
-add-n c = search needs
-
-loop-less : tie.Need-loop-less Inv-loop μ-loop
-loop-less c = search needs
-
 loop-again : tie.Need-loop-again Inv-loop μ-loop
 loop-again c =
-    let loop = c .before .before .before .before .before .loop in
-    let s = c .before .before .before .before .before .before .before in
+    let own = c .before .before .before in
+    let at = own .before .before in
+    let loop = at .loop in
     let n = loop .n in
-    let pointer : ℕ → ℕ = pointerOf (s .args .map .now) in
     record {
-      least = let h = loop .inv .least in omega arith;
+      least = omega arith;
       most = omega arith;
       marks =
-          rw (c .with-bit2 .ensures, c .before .before .with-bit .ensures, c .before .before .before .pointer-of .ensures .0, c .before .pointer-of2 .ensures .0)
-          (marks-same (marks-more (marks-more (loop .inv .marks) n) (8 + n)) (λ k o. passed (s .args .from) n k (omega arith) o) (let h = loop .inv .least in omega arith));
+          rw (c .with-bit2 .ensures, c .before .before .with-bit .ensures, own .pointer-of .ensures .0, c .before .pointer-of2 .ensures .0)
+          (marks-same (marks-more (marks-more (loop .inv .marks) n) (8 + n)) (λ k o. passed (at .before .before .args .from) n k (omega arith) o) (omega arith));
     }
 
 returns : tie.Need-returns Inv-loop μ-loop
@@ -88,12 +67,12 @@ bits-of-spec =
     Inv-loop
     μ-loop
     loop-holds
-    pointer-of-requires
-    with-bit-requires
-    add-pointer-of
-    pointer-of-requires-2
-    with-bit-requires-2
-    add-n
-    loop-less
+    (λ c κs. search needs)
+    (λ c κs. search needs)
+    (λ c. search needs)
+    (λ c κs. search needs)
+    (λ c κs. search needs)
+    (λ c. search needs)
+    (λ c. search needs)
     loop-again
     returns)

@@ -26,48 +26,28 @@ returns c = λ e. absurd (false≢true e)
 loop-holds : tie.Need-loop-holds Inv-loop μ-loop
 loop-holds c = record { least = omega arith; most = omega arith; each = λ k l m. absurd (omega arith) }
 
-pointer-of-requires : tie.Need-pointer-of-requires Inv-loop μ-loop
-pointer-of-requires c κs = search needs
-
-is-between-requires : tie.Need-is-between-requires Inv-loop μ-loop
-is-between-requires c κs = search needs
-
 returns-2 : tie.Need-returns-2 Inv-loop μ-loop
 returns-2 c = λ e. absurd (false≢true e)
-
-add-pointer-of : tie.Need-add-pointer-of Inv-loop μ-loop
-add-pointer-of c = search needs
-
-pointer-of-requires-2 : tie.Need-pointer-of-requires-2 Inv-loop μ-loop
-pointer-of-requires-2 c κs = search needs
-
-is-between-requires-2 : tie.Need-is-between-requires-2 Inv-loop μ-loop
-is-between-requires-2 c κs = search needs
 
 returns-3 : tie.Need-returns-3 Inv-loop μ-loop
 returns-3 c = λ e. absurd (false≢true e)
 
-add-n : tie.Need-add-n Inv-loop μ-loop
-add-n c = search needs
-
-loop-less : tie.Need-loop-less Inv-loop μ-loop
-loop-less c = search needs
-
 loop-again : tie.Need-loop-again Inv-loop μ-loop
 loop-again c =
-    let loop = c .before .before .before .before .before .before .before .loop in
-    let s = c .before .before .before .before .before .before .before .before .before .before .before .args in
+    let first = c .before .before .before .before in
+    let loop = first .before .before .before in
+    let s = loop .before .before .before .before .args in
     let map = s .map .now in
-    let a = c .before .before .before .before .is-between .ensures (not-false _ (c .before .before .before .if2 .left)) in
+    let a = first .is-between .ensures (not-false _ (c .before .before .before .if2 .left)) in
     let b = c .before .is-between2 .ensures (not-false _ (c .if3 .left)) in
     record {
-      least = let h = loop .inv .least in omega arith;
+      least = omega arith;
       most = omega arith;
       each =
-          below-more (λ k. 3 ≤ k → (s .p .start ≤ pointerOf map k) × (pointerOf map k < s .border) × (pointerOf map k < 256) × (s .p .start ≤ pointerOf map (8 + k)) × (pointerOf map (8 + k) < s .border) × (pointerOf map (8 + k) < 256)) (loop .n)
-          (loop .inv .each)
+          below-more (λ k. 3 ≤ k → (s .p .start ≤ pointerOf map k) × (pointerOf map k < s .border) × (pointerOf map k < 256) × (s .p .start ≤ pointerOf map (8 + k)) × (pointerOf map (8 + k) < s .border) × (pointerOf map (8 + k) < 256)) (loop .loop .n)
+          (loop .loop .inv .each)
           (λ m.
-          let own = c .before .before .before .before .before .pointer-of .ensures in
+          let own = first .before .pointer-of .ensures in
           let other = c .before .before .pointer-of2 .ensures in
           (rw (own .0) at (a .0), rw (own .0) at (a .1), rw (own .0) at (own .2 (omega arith)), rw (other .0) at (b .0), rw (other .0) at (b .1), rw (other .0) at (other .2 (omega arith))));
     }
@@ -83,14 +63,14 @@ highs-below-spec =
     μ-loop
     returns
     loop-holds
-    pointer-of-requires
-    is-between-requires
+    (λ c κs. search needs)
+    (λ c κs. search needs)
     returns-2
-    add-pointer-of
-    pointer-of-requires-2
-    is-between-requires-2
+    (λ c. search needs)
+    (λ c κs. search needs)
+    (λ c κs. search needs)
     returns-3
-    add-n
-    loop-less
+    (λ c. search needs)
+    (λ c. search needs)
     loop-again
     returns-4)

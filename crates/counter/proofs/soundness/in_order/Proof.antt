@@ -24,47 +24,28 @@ Inv-loop map p gap₀ slot₀ gap slot =
 abbrev μ-loop : tie.MeasureT-loop
 μ-loop map p gap₀ slot₀ gap slot = 16 - slot
 
-whole-area-requires : tie.Need-whole-area-requires Inv-loop μ-loop
-whole-area-requires c κs = search needs
-
 loop-holds : tie.Need-loop-holds Inv-loop μ-loop
 unfolding every gapTo
 loop-holds c = record { most = omega arith; left = c .whole-area .ensures; all = refl }
 
-pointer-of-requires : tie.Need-pointer-of-requires Inv-loop μ-loop
-pointer-of-requires c κs = search needs
-
-may-try-requires : tie.Need-may-try-requires Inv-loop μ-loop
-may-try-requires c κs = search needs
-
 -- what was tested, by the invariant
 tested : (c : tie.After-may-try Inv-loop μ-loop)
-    → let loop = c .before .before .before .loop in
-    let s = c .before .before .before .before .before .before .args in
-    mayTry (s .p) (kindOf (loop .slot)) (gapTo (loop .slot) (s .p) (pointerOf (s .map .now))) (pointerOf (s .map .now) (loop .slot)) ≡ c .may-try .result
+    → let loop = c .before .before .before in
+    let s = loop .before .before .before .args in
+    mayTry (s .p) (kindOf (loop .loop .slot)) (gapTo (loop .loop .slot) (s .p) (pointerOf (s .map .now))) (pointerOf (s .map .now) (loop .loop .slot)) ≡ c .may-try .result
 tested c = rw (← c .before .before .before .loop .inv .left, ← c .before .pointer-of .ensures .0) (sym (c .may-try .ensures))
 
 returns : tie.Need-returns Inv-loop μ-loop
-returns c =
-    let loop = c .before .before .before .before .loop in
-    sym (every-not _ _ (loop .slot) (c .before .before .before .loop-test .taken) (tested (c .before) ∙ not-true _ (c .if1 .taken)))
-
-narrowed-requires : tie.Need-narrowed-requires Inv-loop μ-loop
-narrowed-requires c κs = c .before .before .pointer-of .ensures .1
-
-add-slot : tie.Need-add-slot Inv-loop μ-loop
-add-slot c = search needs
-
-loop-less : tie.Need-loop-less Inv-loop μ-loop
-loop-less c = search needs
+returns c = let test = c .before in sym (every-not _ _ (test .before .before .before .loop .slot) (test .before .before .loop-test .taken) (tested test ∙ not-true _ (c .if1 .taken)))
 
 loop-again : tie.Need-loop-again Inv-loop μ-loop
 loop-again c =
-    let loop = c .before .before .before .before .before .loop in
+    let test = c .before .before in
+    let loop = test .before .before .before .loop in
     record {
       most = omega arith;
-      left = c .narrowed .ensures ∙ rw (c .before .before .before .pointer-of .ensures .0, loop .inv .left) (gap-more _ _ _);
-      all = every-more (loop .slot) _ (loop .inv .all) (tested (c .before .before) ∙ not-false _ (c .before .if1 .left));
+      left = c .narrowed .ensures ∙ rw (test .before .pointer-of .ensures .0, loop .inv .left) (gap-more _ _ _);
+      all = every-more (loop .slot) _ (loop .inv .all) (tested test ∙ not-false _ (c .before .if1 .left));
     }
 
 returns-2 : tie.Need-returns-2 Inv-loop μ-loop
@@ -79,13 +60,13 @@ in-order-spec =
     (tie.spec
     Inv-loop
     μ-loop
-    whole-area-requires
+    (λ c κs. search needs)
     loop-holds
-    pointer-of-requires
-    may-try-requires
+    (λ c κs. search needs)
+    (λ c κs. search needs)
     returns
-    narrowed-requires
-    add-slot
-    loop-less
+    (λ c κs. search needs)
+    (λ c. search needs)
+    (λ c. search needs)
     loop-again
     returns-2)

@@ -6,12 +6,6 @@ use native.Mathlib.Omega.{arith}
 use Rattle.counter.proofs.soundness.is_between.Statement.{statement}
 use Rattle.counter.proofs.soundness.is_between.Tie as tie
 
-wrapping-sub-usize-requires : tie.Need-wrapping-sub-usize-requires
-wrapping-sub-usize-requires c κs = search needs
-
-sub-result : tie.Need-sub-result
-sub-result c = search needs
-
 returns : tie.Need-returns
 returns c e =
     let s = c .before .args in
@@ -20,4 +14,4 @@ returns c e =
     (omega arith, omega arith)
 
 pub is-between-spec : {M : Type 1} → statement M
-is-between-spec = tie.close (tie.spec wrapping-sub-usize-requires sub-result returns)
+is-between-spec = tie.close (tie.spec (λ c κs. search needs) (λ c. search needs) returns)

@@ -23,32 +23,14 @@ Inv-loop pointers slot a i₀ i =
 abbrev μ-loop : tie.MeasureT-loop
 μ-loop pointers slot a i₀ i = slot - i
 
-mul-a : tie.Need-mul-a Inv-loop μ-loop
-mul-a c = search needs
-
-element-copy-out-a : tie.Need-element-copy-out-a Inv-loop μ-loop
-element-copy-out-a c = search needs
-
 loop-holds : tie.Need-loop-holds Inv-loop μ-loop
 unfolding every
 loop-holds c = search needs
-
-mul-if1 : tie.Need-mul-if1 Inv-loop μ-loop
-mul-if1 c = search needs
-
-element-copy-out-if1 : tie.Need-element-copy-out-if1 Inv-loop μ-loop
-element-copy-out-if1 c = search needs
 
 returns : tie.Need-returns Inv-loop μ-loop
 returns c =
     let loop = c .before .before .before .loop in
     sym (every-not _ _ (loop .i) (c .before .before .loop-test .taken) (ap not (eq-eqb _ _ (c .if1 .taken ∙ loop .inv .own))))
-
-add-i : tie.Need-add-i Inv-loop μ-loop
-add-i c = search needs
-
-loop-less : tie.Need-loop-less Inv-loop μ-loop
-loop-less c = search needs
 
 loop-again : tie.Need-loop-again Inv-loop μ-loop
 loop-again c =
@@ -71,13 +53,13 @@ is-new-spec =
     (tie.spec
     Inv-loop
     μ-loop
-    mul-a
-    element-copy-out-a
+    (λ c. search needs)
+    (λ c. search needs)
     loop-holds
-    mul-if1
-    element-copy-out-if1
+    (λ c. search needs)
+    (λ c. search needs)
     returns
-    add-i
-    loop-less
+    (λ c. search needs)
+    (λ c. search needs)
     loop-again
     returns-2)

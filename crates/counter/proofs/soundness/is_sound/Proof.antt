@@ -5,15 +5,6 @@ use Rattle.counter.proofs.SoundByTries.{border-tries, spread-sound}
 use Rattle.counter.proofs.soundness.is_sound.Statement.{statement}
 use Rattle.counter.proofs.soundness.is_sound.Tie as tie
 
-low-border-requires : tie.Need-low-border-requires
-low-border-requires c κs = search needs
-
-highs-below-requires : tie.Need-highs-below-requires
-highs-below-requires c κs = search needs
-
-spread-requires : tie.Need-spread-requires
-spread-requires c κs = search needs
-
 returns : tie.Need-returns
 returns c =
     let seen = c .before .before in
@@ -28,16 +19,13 @@ plainly-sound-requires c κs =
     let pre = looked .before .before .before .pre in
     (pre .0, pre .1, λ e. border-tries _ _ _ (looked .before .low-border .ensures) (looked .highs-below .ensures e))
 
-returns-2 : tie.Need-returns-2
-returns-2 c = search needs
-
 pub is-sound-spec : {M : Type 1} → statement M
 is-sound-spec =
     tie.close
     (tie.spec
-    low-border-requires
-    highs-below-requires
-    spread-requires
+    (λ c κs. search needs)
+    (λ c κs. search needs)
+    (λ c κs. search needs)
     returns
     plainly-sound-requires
-    returns-2)
+    (λ c. search needs))

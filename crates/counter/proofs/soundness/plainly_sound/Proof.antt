@@ -14,9 +14,6 @@ use Rattle.counter.proofs.SoundByTries.{follows, sound-tries, sound-dif
 use Rattle.counter.proofs.soundness.plainly_sound.Statement.{statement}
 use Rattle.counter.proofs.soundness.plainly_sound.Tie as tie
 
-in-order-requires : tie.Need-in-order-requires
-in-order-requires c κs = search needs
-
 returns : tie.Need-returns
 returns c =
     sym
@@ -24,9 +21,6 @@ returns c =
     (λ s.
     let z = true≢false (cc (sound-tries two _ _ s, c .before .in-order .ensures, not-true (c .before .in-order .result) (c .if2 .taken))) in
     omega arith))
-
-spread-requires : tie.Need-spread-requires
-spread-requires c κs = search needs
 
 -- each could be tried: it was seen, or known
 tries : (c : tie.Joined1) → let s = c .before .before in every 16 (follows two (s .args .p) (pointerOf (s .args .map .now))) ≡ true
@@ -37,13 +31,10 @@ tries c =
 returns-2 : tie.Need-returns-2
 returns-2 c = let apart = c .before .spread .ensures (c .if3 .taken) in sym (spread-sound _ _ (tries (c .before .before)) (apart .0) (apart .1))
 
-all-differ-requires : tie.Need-all-differ-requires
-all-differ-requires c κs = search needs
-
 returns-3 : tie.Need-returns-3
 returns-3 c = c .all-differ .ensures ∙ sound-differ two _ _ (tries (c .before .before .before))
 
 pub plainly-sound-spec : {M : Type 1} → statement M
 plainly-sound-spec =
     tie.close
-    (tie.spec in-order-requires returns spread-requires returns-2 all-differ-requires returns-3)
+    (tie.spec (λ c κs. search needs) returns (λ c κs. search needs) returns-2 (λ c κs. search needs) returns-3)

@@ -8,12 +8,6 @@ use lib.Count.{ones}
 use Rattle.counter.proofs.soundness.spread.Statement.{statement}
 use Rattle.counter.proofs.soundness.spread.Tie as tie
 
-bits-of-requires : tie.Need-bits-of-requires
-bits-of-requires c κs = search needs
-
-bits-of-requires-2 : tie.Need-bits-of-requires-2
-bits-of-requires-2 c κs = search needs
-
 add-result : tie.Need-add-result
 add-result c = let low = c .before .bits-of .ensures .0 in let high = c .bits-of2 .ensures .0 in omega arith
 
@@ -28,4 +22,4 @@ returns c e =
     )
 
 pub spread-spec : {M : Type 1} → statement M
-spread-spec = tie.close (tie.spec bits-of-requires bits-of-requires-2 add-result returns)
+spread-spec = tie.close (tie.spec (λ c κs. search needs) (λ c κs. search needs) add-result returns)

@@ -19,11 +19,8 @@ mul-result c = omega (arith, few c)
 add-result : tie.Need-add-result
 add-result c = omega (arith, few c)
 
-shl-result : tie.Need-shl-result
-shl-result c = search needs
-
 returns : tie.Need-returns
 returns c = ap (bitOr (c .args .bits)) (ap (λ x. x % 2 ^ 64) (one-mul _) ∙ mod-eq-of-lt (pow-lt {j = 64} (omega arith)))
 
 pub with-bit-spec : {M : Type 1} → statement M
-with-bit-spec = tie.close (tie.spec mul-result add-result shl-result returns)
+with-bit-spec = tie.close (tie.spec mul-result add-result (λ c. search needs) returns)

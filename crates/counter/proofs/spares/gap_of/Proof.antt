@@ -17,24 +17,12 @@ Inv-loop map gap₀ slot₀ gap slot =
 abbrev μ-loop : tie.MeasureT-loop
 μ-loop map gap₀ slot₀ gap slot = 16 - slot
 
-whole-area-requires : tie.Need-whole-area-requires Inv-loop μ-loop
-whole-area-requires c κs = search needs
-
 loop-holds : tie.Need-loop-holds Inv-loop μ-loop
 unfolding gapTo
 loop-holds c = record { most = omega arith; left = λ p e. e }
 
-pointer-of-requires : tie.Need-pointer-of-requires Inv-loop μ-loop
-pointer-of-requires c κs = search needs
-
 narrowed-requires : tie.Need-narrowed-requires Inv-loop μ-loop
 narrowed-requires c κs = c .pointer-of .ensures .1
-
-add-slot : tie.Need-add-slot Inv-loop μ-loop
-add-slot c = search needs
-
-loop-less : tie.Need-loop-less Inv-loop μ-loop
-loop-less c = search needs
 
 loop-again : tie.Need-loop-again Inv-loop μ-loop
 loop-again c =
@@ -54,11 +42,11 @@ gap-of-spec =
     (tie.spec
     Inv-loop
     μ-loop
-    whole-area-requires
+    (λ c κs. search needs)
     loop-holds
-    pointer-of-requires
+    (λ c κs. search needs)
     narrowed-requires
-    add-slot
-    loop-less
+    (λ c. search needs)
+    (λ c. search needs)
     loop-again
     returns)

@@ -16,9 +16,6 @@ returns-2 : tie.Need-returns-2
 unfolding narrow
 returns-2 c = rw (kind-low _ (c .before .before .if1 .taken), min-eq-left (c .if2 .left))
 
-add-t7 : tie.Need-add-t7
-add-t7 c = search needs
-
 returns-3 : tie.Need-returns-3
 unfolding narrow
 returns-3 c =
@@ -34,4 +31,4 @@ returns-4 c =
     rw (kind-high _ (c .before .before .if1 .left), max-eq-left less)
 
 pub narrowed-spec : {M : Type 1} → statement M
-narrowed-spec = tie.close (tie.spec returns returns-2 add-t7 returns-3 returns-4)
+narrowed-spec = tie.close (tie.spec returns returns-2 (λ c. search needs) returns-3 returns-4)

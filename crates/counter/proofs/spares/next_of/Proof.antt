@@ -5,9 +5,6 @@ use Rattle.counter.proofs.Offsets.{kind-low, kind-high}
 use Rattle.counter.proofs.spares.next_of.Statement.{statement}
 use Rattle.counter.proofs.spares.next_of.Tie as tie
 
-sub-result : tie.Need-sub-result
-sub-result c = search needs
-
 returns : tie.Need-returns
 unfolding nextOf
 returns c = rw (kind-low _ (c .before .if1 .taken))
@@ -17,4 +14,4 @@ unfolding nextOf
 returns-2 c = rw (kind-high _ (c .if1 .left))
 
 pub next-of-spec : {M : Type 1} → statement M
-next-of-spec = tie.close (tie.spec sub-result returns returns-2)
+next-of-spec = tie.close (tie.spec (λ c. search needs) returns returns-2)

@@ -6,26 +6,17 @@ use Rattle.counter.proofs.Offsets.{kind-low, kind-high}
 use Rattle.counter.proofs.spares.spares_of.Statement.{statement}
 use Rattle.counter.proofs.spares.spares_of.Tie as tie
 
-sub-result : tie.Need-sub-result
-sub-result c = search needs
-
 returns : tie.Need-returns
 unfolding sparesOf
 returns c = rw (kind-low _ (c .before .if1 .taken))
 
-sub-result-2 : tie.Need-sub-result-2
-sub-result-2 c = search needs
-
 returns-2 : tie.Need-returns-2
 unfolding sparesOf
 returns-2 c = rw (kind-high _ (c .before .before .before .if1 .left), min-eq-right (le-of-lt (c .before .if2 .taken)))
-
-sub-result-3 : tie.Need-sub-result-3
-sub-result-3 c = search needs
 
 returns-3 : tie.Need-returns-3
 unfolding sparesOf
 returns-3 c = rw (kind-high _ (c .before .before .before .if1 .left), min-eq-left (c .before .if2 .left))
 
 pub spares-of-spec : {M : Type 1} → statement M
-spares-of-spec = tie.close (tie.spec sub-result returns sub-result-2 returns-2 sub-result-3 returns-3)
+spares-of-spec = tie.close (tie.spec (λ c. search needs) returns (λ c. search needs) returns-2 (λ c. search needs) returns-3)

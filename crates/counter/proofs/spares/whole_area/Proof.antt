@@ -5,12 +5,9 @@ use Rattle.counter.specs.Spares.{wholeArea}
 use Rattle.counter.proofs.spares.whole_area.Statement.{statement}
 use Rattle.counter.proofs.spares.whole_area.Tie as tie
 
-add-t2 : tie.Need-add-t2
-add-t2 c = search needs
-
 returns : tie.Need-returns
 unfolding wholeArea
 returns c = refl
 
 pub whole-area-spec : {M : Type 1} → statement M
-whole-area-spec = tie.close (tie.spec add-t2 returns)
+whole-area-spec = tie.close (tie.spec (λ c. search needs) returns)

@@ -11,9 +11,6 @@ use Rattle.counter.specs.Layout.{two}
 use Rattle.counter.proofs.store.cells_of.Statement.{statement}
 use Rattle.counter.proofs.store.cells_of.Tie as tie
 
-at-requires : tie.Need-at-requires
-at-requires c κs = search needs
-
 cells-requires : tie.Need-cells-requires
 cells-requires c κs = let placed = good-placed two _ _ (c .before .before .pre .0) in omega arith
 
@@ -31,9 +28,6 @@ long c =
 pointer-of-requires : tie.Need-pointer-of-requires
 pointer-of-requires c κs = let h = c .before .before .before .pre .1 in (long c, omega arith)
 
-add-pointer-of : tie.Need-add-pointer-of
-add-pointer-of c = search needs
-
 pointer-of-requires-2 : tie.Need-pointer-of-requires-2
 pointer-of-requires-2 c κs = let h = c .before .before .before .before .pre .1 in (long (c .before), omega arith)
 
@@ -48,9 +42,9 @@ pub cells-of-spec : {M : Type 1} → statement M
 cells-of-spec =
     tie.close
     (tie.spec
-    at-requires
+    (λ c κs. search needs)
     cells-requires
     pointer-of-requires
-    add-pointer-of
+    (λ c. search needs)
     pointer-of-requires-2
     returns)

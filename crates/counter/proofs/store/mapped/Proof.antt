@@ -5,12 +5,6 @@ use Rattle.counter.specs.Store.{mapped}
 use Rattle.counter.proofs.store.mapped.Statement.{statement}
 use Rattle.counter.proofs.store.mapped.Tie as tie
 
-enum-told : tie.Need-enum-told
-enum-told c = search needs
-
-enum-known-failed : tie.Need-enum-known-failed
-enum-known-failed c = search needs
-
 returns : tie.Need-returns
 unfolding mapped
 returns c = search needs
@@ -20,4 +14,4 @@ unfolding mapped
 returns-2 c = (sym (ap mapped (c .before .failed .given .1)), refl, refl)
 
 pub mapped-spec : {M : Type 1} → statement M
-mapped-spec = tie.close (tie.spec enum-told enum-known-failed returns returns-2)
+mapped-spec = tie.close (tie.spec (λ c. search needs) (λ c. search needs) returns returns-2)

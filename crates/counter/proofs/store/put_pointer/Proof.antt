@@ -12,96 +12,63 @@ use Rattle.counter.proofs.StoreViews.{low-pointer, high-pointer}
 use Rattle.counter.proofs.store.put_pointer.Statement.{statement}
 use Rattle.counter.proofs.store.put_pointer.Tie as tie
 
-offset-of-requires : tie.Need-offset-of-requires
-offset-of-requires c κs = search needs
+abbrev start : tie.After-offset-of → tie.Start
+start c = c .before .before .before
 
 add-at : tie.Need-add-at
 add-at c =
-    let s = c .before .before .before .before in
+    let s = start (c .before) in
     let ready = fitted-ready (s .pre .0) in
-    let good = ready-placed ready in
-    let inside = offset-inside two (s .args .slot) (s .pre .1) in
-    omega (arith, ready-short ready, c .before .offset-of .ensures)
-
-cast-low : tie.Need-cast-low
-cast-low c = search needs
-
-cast-t13 : tie.Need-cast-t13
-cast-t13 c = search needs
-
-slice-aggregate-put-row : tie.Need-slice-aggregate-put-row
-slice-aggregate-put-row c = search needs
+    omega (arith, ready-placed ready, ready-short ready, offset-inside two (s .args .slot) (s .pre .1), c .before .offset-of .ensures)
 
 put-row-requires : tie.Need-put-row-requires
 put-row-requires c κs =
-    let s = c .before .before .before .before .before .before .before .before in
+    let then = c .before .before .before in
+    let s = start (then .before .before) in
     let ready = fitted-ready (s .pre .0) in
-    let good = ready-placed ready in
-    let inside = low-inside two (s .args .slot) (s .pre .1) (c .before .before .before .if1 .taken) in
-    let at = c .before .before .before .before .before .offset-of .ensures in
-    (omega arith, ready .paired)
-
-mapped-requires : tie.Need-mapped-requires
-mapped-requires c κs = search needs
-
-same-length : tie.Need-same-length
-same-length c = search needs
-
-same-length-2 : tie.Need-same-length-2
-same-length-2 c = search needs
+    (omega (arith, ready-placed ready, low-inside two (s .args .slot) (s .pre .1) (then .if1 .taken), then .before .before .offset-of .ensures), ready .paired)
 
 returns : tie.Need-returns
 returns c =
-    let s = c .before .before .before .before .before .before .before .before .before .before .before .before .before .before in
+    let put = c .before .before .before .before .before in
+    let then = put .before .before .before .before in
+    let s = start (then .before .before) in
     let m = c .mapped .ensures in
-    rw (m .0, m .1, m .2) (sym (low-pointer (s .args .p) (s .args .slot) (s .args .a) _ _ (c .before .before .before .before .before .before .before .before .before .before .before .offset-of .ensures) (c .before .before .before .before .before .before .before .before .before .if1 .taken) (c .before .before .before .before .before .put-row .ensures)))
-
-slice-aggregate-put-row-2 : tie.Need-slice-aggregate-put-row-2
-slice-aggregate-put-row-2 c = search needs
+    rw (m .0, m .1, m .2) (sym (low-pointer (s .args .p) (s .args .slot) (s .args .a) _ _ (then .before .before .offset-of .ensures) (then .if1 .taken) (put .put-row .ensures)))
 
 put-row-requires-2 : tie.Need-put-row-requires-2
 put-row-requires-2 c κs =
-    let s = c .before .before .before .before .before .before .before .before in
+    let other = c .before .before .before in
+    let s = start (other .before .before) in
     let ready = fitted-ready (s .pre .0) in
-    let good = ready-placed ready in
-    let inside = high-inside two (s .args .slot) (s .pre .1) (c .before .before .before .if1 .left) in
-    let at = c .before .before .before .before .before .offset-of .ensures in
-    (omega arith, ready .paired)
-
-mapped-requires-2 : tie.Need-mapped-requires-2
-mapped-requires-2 c κs = search needs
-
-same-length-3 : tie.Need-same-length-3
-same-length-3 c = search needs
-
-same-length-4 : tie.Need-same-length-4
-same-length-4 c = search needs
+    (omega (arith, ready-placed ready, high-inside two (s .args .slot) (s .pre .1) (other .if1 .left), other .before .before .offset-of .ensures), ready .paired)
 
 returns-2 : tie.Need-returns-2
 returns-2 c =
-    let s = c .before .before .before .before .before .before .before .before .before .before .before .before .before .before in
+    let put = c .before .before .before .before .before in
+    let other = put .before .before .before .before in
+    let s = start (other .before .before) in
     let m = c .mapped2 .ensures in
-    let kind = kind-high (s .args .slot) (c .before .before .before .before .before .before .before .before .before .if1 .left) in
-    let reach = test-reach (kindOf (s .args .slot)) (s .args .a) (s .pre .3) kind in
-    rw (m .0, m .1, m .2) (sym (high-pointer (s .args .p) (s .args .slot) (s .args .a) _ _ (c .before .before .before .before .before .before .before .before .before .before .before .offset-of .ensures) (c .before .before .before .before .before .before .before .before .before .if1 .left) reach (c .before .before .before .before .before .put-row2 .ensures)))
+    let reach = test-reach (kindOf (s .args .slot)) (s .args .a) (s .pre .3) (kind-high (s .args .slot) (other .if1 .left)) in
+    rw (m .0, m .1, m .2) (sym (high-pointer (s .args .p) (s .args .slot) (s .args .a) _ _ (other .before .before .offset-of .ensures) (other .if1 .left) reach (put .put-row2 .ensures)))
 
 pub put-pointer-spec : {M : Type 1} → statement M
 put-pointer-spec =
     tie.close
     (tie.spec
-    offset-of-requires
+    (λ c κs. search needs)
     add-at
-    cast-low
-    cast-t13
-    slice-aggregate-put-row
+    (λ c. search needs)
+    (λ c. search needs)
+    (λ c. search needs)
     put-row-requires
-    mapped-requires
-    same-length
-    same-length-2
+    (λ c κs. search needs)
+    (λ c. search needs)
+    (λ c. search needs)
     returns
-    slice-aggregate-put-row-2
+    (λ c. search needs)
     put-row-requires-2
-    mapped-requires-2
-    same-length-3
-    same-length-4
+    (λ c κs. search needs)
+    (λ c. search needs)
+    (λ c. search needs)
     returns-2)

@@ -13,17 +13,5 @@ returns c =
     let s = c .before .before .before in
     sym (ap (λ (r : Run Work). view r) (store-held two (s .args .p) (s .args .count) _ (s .pre .2 (c .if1 .taken))))
 
-store-count-requires : tie.Need-store-count-requires
-store-count-requires c κs = search needs
-
-same-length : tie.Need-same-length
-same-length c = search needs
-
-same-length-2 : tie.Need-same-length-2
-same-length-2 c = search needs
-
-returns-2 : tie.Need-returns-2
-returns-2 c = search needs
-
 pub settle-spec : {M : Type 1} → statement M
-settle-spec = tie.close (tie.spec returns store-count-requires same-length same-length-2 returns-2)
+settle-spec = tie.close (tie.spec returns (λ c κs. search needs) (λ c. search needs) (λ c. search needs) (λ c. search needs))

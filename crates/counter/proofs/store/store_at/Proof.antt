@@ -29,12 +29,6 @@ put-requires c κs =
     let ready = fitted-ready (s .pre .0) in
     (rw (s .pre .3) (inside-cell ready (test-sound two _ _ (s .pre .1) .inside _ (s .pre .2))), ready .paired)
 
-same-length : tie.Need-same-length
-same-length c = search needs
-
-same-length-2 : tie.Need-same-length-2
-same-length-2 c = search needs
-
 returns : tie.Need-returns
 returns c =
     let put = c .before .before .before .before .before in
@@ -62,12 +56,6 @@ behind-requires c κs =
     let moved = move-few (fitted-ready (still-fit other .0)) _ _ (call .move-slot .ensures) in
     (omega arith, omega arith, omega arith, omega arith)
 
-same-length-3 : tie.Need-same-length-3
-same-length-3 c = search needs
-
-same-length-4 : tie.Need-same-length-4
-same-length-4 c = search needs
-
 returns-2 : tie.Need-returns-2
 returns-2 c =
     let call = c .before .before .before .before .before in
@@ -80,11 +68,11 @@ store-at-spec =
     tie.close
     (tie.spec
     put-requires
-    same-length
-    same-length-2
+    (λ c. search needs)
+    (λ c. search needs)
     returns
     move-slot-requires
     behind-requires
-    same-length-3
-    same-length-4
+    (λ c. search needs)
+    (λ c. search needs)
     returns-2)

@@ -44,8 +44,12 @@ Inv-loop image₀ lives₀ p count word done₀ slot₀ image lives done slot =
 abbrev μ-loop : tie.MeasureT-loop
 μ-loop image₀ lives₀ p count word done₀ slot₀ image lives done slot = 16 - slot
 
-gray-of-requires : tie.Need-gray-of-requires Inv-loop μ-loop
-gray-of-requires c κs = search needs
+abbrev turn : tie.After-store-slot Inv-loop μ-loop → tie.In-loop Inv-loop μ-loop
+turn c = c .before .before .before .before .before
+
+-- the slot's store, from what it comes to behind the work before it
+abbrev stored : tie.After-behind Inv-loop μ-loop → tie.After-store-slot Inv-loop μ-loop
+stored c = c .before .before .before .before .before
 
 loop-holds : tie.Need-loop-holds Inv-loop μ-loop
 loop-holds c =
@@ -61,47 +65,23 @@ loop-holds c =
       rest = store-left-all _ _ _ _;
     }
 
-nibble-of-requires : tie.Need-nibble-of-requires Inv-loop μ-loop
-nibble-of-requires c κs = search needs
-
-code-of-requires : tie.Need-code-of-requires Inv-loop μ-loop
-code-of-requires c κs = search needs
-
 -- the byte is the slot's code of the count
-code-here : (c : tie.After-code-of Inv-loop μ-loop) → c .code-of .result ≡ slotCode (c .before .before .before .before .before .before .before .before .before .args .count) (c .before .before .before .before .before .loop .slot)
+code-here : (c : tie.After-store-slot Inv-loop μ-loop) → let loop = turn c .before in c .before .code-of .result ≡ slotCode (loop .before .before .before .before .args .count) (loop .loop .slot)
 unfolding slotCode
-code-here c = c .code-of .ensures ∙ ap codeOf (c .before .nibble-of .ensures ∙ ap (λ w. nibbleOf w (c .before .before .before .before .before .loop .slot % 8)) (c .before .before .before .before .before .before .gray-of .ensures))
-
-store-slot-requires : tie.Need-store-slot-requires Inv-loop μ-loop
-store-slot-requires c κs =
-    let inv = c .before .before .before .before .before .loop .inv in
-    let inside = c .before .before .before .before .loop-test .taken in
-    (inv .good, inv .well, omega arith)
+code-here c = c .before .code-of .ensures ∙ ap codeOf (c .before .before .nibble-of .ensures ∙ ap (λ w. nibbleOf w (turn c .before .loop .slot % 8)) (turn c .before .before .gray-of .ensures))
 
 -- what the slot asked and tried
 few-here : (c : tie.After-store-slot Inv-loop μ-loop) → (c .store-slot .result .writes ≤ 4099) × (c .store-slot .result .tried ≤ 4096)
-few-here c = slot-few (fitted-ready (c .before .before .before .before .before .before .loop .inv .good)) _ _ (c .store-slot .ensures)
+few-here c = slot-few (fitted-ready (turn c .before .loop .inv .good)) _ _ (c .store-slot .ensures)
 
 behind-requires : tie.Need-behind-requires Inv-loop μ-loop
 behind-requires c κs =
-    let inv = c .before .before .before .before .before .before .before .before .before .before .loop .inv in
-    let inside = c .before .before .before .before .before .before .before .before .before .loop-test .taken in
     let few = few-here (c .before .before .before .before) in
     (omega arith, omega arith, omega arith, omega arith)
 
-is-stopped-requires : tie.Need-is-stopped-requires Inv-loop μ-loop
-is-stopped-requires c κs = search needs
-
-add-slot : tie.Need-add-slot Inv-loop μ-loop
-add-slot c = search needs
-
-loop-less : tie.Need-loop-less Inv-loop μ-loop
-loop-less c = search needs
-
 -- what the slot came to, behind the work before it
-sum : (c : tie.After-behind Inv-loop μ-loop) → let call = c .before .before .before .before .before in
-    let before = call .before .before .before .before .before .before .loop .done in
-    let r = call .store-slot .result in
+sum : (c : tie.After-behind Inv-loop μ-loop) → let before = turn (stored c) .before .loop .done in
+    let r = stored c .store-slot .result in
     (c .behind .result .work ≡ r .work) × (c .behind .result .writes ≡ before .writes + r .writes) × (c .behind .result .tried ≡ before .tried + r .tried)
 sum c =
     let said = c .behind .ensures (chip [] []) in
@@ -110,14 +90,12 @@ sum c =
 loop-again : tie.Need-loop-again Inv-loop μ-loop
 loop-again c =
     let behind = c .before .before in
-    let call = behind .before .before .before .before .before in
-    let loop = call .before .before .before .before .before .before .loop in
-    let test = call .before .before .before .before .before .loop-test .taken in
+    let call = stored behind in
+    let loop = turn call .before .loop in
     let inside : loop .slot < 16 = omega arith in
     let few = few-here call in
     let said = sum behind in
-    let going = sym (said .0) in
-    let done : stopped (call .store-slot .result .work) ≡ false = ap stopped going ∙ sym (c .before .is-stopped .ensures) ∙ c .if1 .left in
+    let done : stopped (call .store-slot .result .work) ≡ false = ap stopped (sym (said .0)) ∙ sym (c .before .is-stopped .ensures) ∙ c .if1 .left in
     let settled = slot-settled two _ _ (loop .inv .good) (loop .inv .well) _ _ inside (call .store-slot .ensures) done in
     record {
       most = omega arith;
@@ -129,37 +107,25 @@ loop-again c =
       good = settled .0;
       well = settled .1;
       rest =
-          rw (said .1, said .2)
+          rw (← said .1, ← said .2) at
           (loop .inv .rest
-          ∙ ap (plus (loop .done .writes) (loop .done .tried)) (store-left-done two _ _ _ _ inside (code-here (call .before)) (call .store-slot .ensures) done)
+          ∙ ap (plus (loop .done .writes) (loop .done .tried)) (store-left-done two _ _ _ _ inside (code-here call) (call .store-slot .ensures) done)
           ∙ plus-plus (loop .done .writes) (loop .done .tried) (call .store-slot .result .writes) (call .store-slot .result .tried) _);
     }
-
-same-length : tie.Need-same-length Inv-loop μ-loop
-same-length c = search needs
-
-same-length-2 : tie.Need-same-length-2 Inv-loop μ-loop
-same-length-2 c = search needs
 
 returns : tie.Need-returns Inv-loop μ-loop
 returns c =
     let loop = c .before .loop in
     rw (loop .inv .work) (sym (loop .inv .rest ∙ store-left-none two _ _ _ _ (loop .slot) _ (omega arith)))
 
-same-length-3 : tie.Need-same-length-3 Inv-loop μ-loop
-same-length-3 c = search needs
-
-same-length-4 : tie.Need-same-length-4 Inv-loop μ-loop
-same-length-4 c = search needs
-
 returns-2 : tie.Need-returns-2 Inv-loop μ-loop
 returns-2 c =
     let behind = c .before .before in
-    let call = behind .before .before .before .before .before in
-    let loop = call .before .before .before .before .before .before .loop in
+    let call = stored behind in
+    let loop = turn call .before .loop in
     let halt : stopped (call .store-slot .result .work) ≡ true = ap stopped (sym (sum behind .0)) ∙ sym (c .before .is-stopped .ensures) ∙ c .if1 .taken in
     behind .behind .ensures _
-    ∙ ap (plus (loop .done .writes) (loop .done .tried)) (sym (store-left-stopped two _ _ _ _ (let inside = call .before .before .before .before .before .loop-test .taken in omega arith) (code-here (call .before)) (call .store-slot .ensures) halt))
+    ∙ ap (plus (loop .done .writes) (loop .done .tried)) (sym (store-left-stopped two _ _ _ _ (omega arith) (code-here call) (call .store-slot .ensures) halt))
     ∙ sym (loop .inv .rest)
 
 pub store-count-spec : {M : Type 1} → statement M
@@ -168,19 +134,19 @@ store-count-spec =
     (tie.spec
     Inv-loop
     μ-loop
-    gray-of-requires
+    (λ c κs. search needs)
     loop-holds
-    nibble-of-requires
-    code-of-requires
-    store-slot-requires
+    (λ c κs. search needs)
+    (λ c κs. search needs)
+    (λ c κs. search needs)
     behind-requires
-    is-stopped-requires
-    add-slot
-    loop-less
+    (λ c κs. search needs)
+    (λ c. search needs)
+    (λ c. search needs)
     loop-again
-    same-length
-    same-length-2
+    (λ c. search needs)
+    (λ c. search needs)
     returns
-    same-length-3
-    same-length-4
+    (λ c. search needs)
+    (λ c. search needs)
     returns-2)

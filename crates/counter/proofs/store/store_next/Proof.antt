@@ -18,42 +18,17 @@ here : (c : tie.After-changed-bit) → c .changed-bit .result / 4 ≡ changedNib
 here c = rw (c .changed-bit .ensures)
 
 small : (c : tie.After-changed-bit) → c .changed-bit .result / 4 < 8
-small c = let h = here c in let h′ = step-nibble-small (c .before .before .before .args .count) (let q = c .before .before .before .pre .2 in omega arith) in omega arith
+small c = let s = c .before .before .before in omega (arith, here c, step-nibble-small (s .args .count) (omega (arith, s .pre .2)))
 
 -- the byte is its code
-code : (c : tie.After-code-of) → let s = c .before .before .before .before .before .before in
-    c .code-of .result ≡ codeOf (nibbleOf (grayOf (s .args .count + 1)) (c .before .before .before .changed-bit .result / 4))
+code : (c : tie.After-code-of) → let changed = c .before .before .before in
+    c .code-of .result ≡ codeOf (nibbleOf (grayOf (changed .before .before .before .args .count + 1)) (changed .changed-bit .result / 4))
 code c = c .code-of .ensures ∙ ap codeOf (c .before .nibble-of .ensures ∙ ap (λ w. nibbleOf w (c .before .before .before .changed-bit .result / 4)) (c .before .before .gray-of .ensures))
-
-add-next : tie.Need-add-next
-add-next c = search needs
-
-changed-bit-requires : tie.Need-changed-bit-requires
-changed-bit-requires c κs = search needs
-
-cast-nibble : tie.Need-cast-nibble
-cast-nibble c = search needs
-
-gray-of-requires : tie.Need-gray-of-requires
-gray-of-requires c κs = search needs
-
-nibble-of-requires : tie.Need-nibble-of-requires
-nibble-of-requires c κs = search needs
-
-code-of-requires : tie.Need-code-of-requires
-code-of-requires c κs = search needs
 
 store-pair-requires : tie.Need-store-pair-requires
 store-pair-requires c κs =
-    let changed = c .before .before .before .before .before in
-    let s = changed .before .before .before in
-    (s .pre .0, s .pre .1, small changed)
-
-same-length : tie.Need-same-length
-same-length c = search needs
-
-same-length-2 : tie.Need-same-length-2
-same-length-2 c = search needs
+    let coded = c .before .before in
+    (search needs, search needs, small (coded .before .before .before))
 
 returns : tie.Need-returns
 returns c =
@@ -68,13 +43,13 @@ pub store-next-spec : {M : Type 1} → statement M
 store-next-spec =
     tie.close
     (tie.spec
-    add-next
-    changed-bit-requires
-    cast-nibble
-    gray-of-requires
-    nibble-of-requires
-    code-of-requires
+    (λ c. search needs)
+    (λ c κs. search needs)
+    (λ c. search needs)
+    (λ c κs. search needs)
+    (λ c κs. search needs)
+    (λ c κs. search needs)
     store-pair-requires
-    same-length
-    same-length-2
+    (λ c. search needs)
+    (λ c. search needs)
     returns)

@@ -45,6 +45,9 @@ unheld c = moved c .before .before .before
 abbrev first : tie.Else2 → tie.After-behind2
 first c = c .before .before
 
+abbrev second : tie.After-behind3 → tie.After-store-slot
+second c = c .before .before .before .before .before
+
 -- ## The put at the first slot's cell
 
 cells-of-requires : tie.Need-cells-of-requires
@@ -54,7 +57,6 @@ put-requires : tie.Need-put-requires
 put-requires c κs =
     let cells = c .before .before in
     let s = cells .before .before .before .before in
-    let low = s .pre .2 in
     let ready = fitted-ready (s .pre .0) in
     (rw (cells .cells-of .ensures .0) (inside-cell ready (test-sound two _ _ (s .pre .1) .inside _ (omega arith))), ready .paired)
 
@@ -65,23 +67,18 @@ stored : (c : tie.Then1) → let s = start (held c) in let put = held c .put in
     seen Done (put .result .writes) 0 (chip (put .last .0) (put .last .1 .0)) ≡ view (storeSlot two (s .args .p) (s .args .nibble) (s .args .byte) (chip (s .args .image .now) (s .args .lives .now)))
 stored c = sym (slot-put two _ _ _ _ (cells (held c) .cells-of .ensures .0) (held c .put .ensures) (c .if1 .taken))
 
-add-store-at : tie.Need-add-store-at
-add-store-at c = search needs
-
 -- the chip is fit for the second slot, whose pointer is as it was
 next-fit : (c : tie.Then1) → let s = start (held c) in let p = s .args .p in
     let t = chip (held c .put .last .0) (held c .put .last .1 .0) in
     (fitted two p t ≡ true) × (sound two p (pointers two p t) ≡ true) × (cells (held c) .cells-of .result .other ≡ pointers two p t (8 + s .args .nibble))
 next-fit c =
     let s = start (held c) in
-    let low = s .pre .2 in
     let fit = slot-settled two _ _ (s .pre .0) (s .pre .1) _ _ (omega arith) (stored c) refl in
     (fit .0, fit .1, cells (held c) .cells-of .ensures .1 ∙ sym (slot-others two _ _ (s .pre .0) (s .pre .1) _ _ (omega arith) (stored c) _ (omega arith) (λ e. omega arith)))
 
 store-at-requires : tie.Need-store-at-requires
 store-at-requires c κs =
     let fit = next-fit (c .before .before) in
-    let low = start (held (c .before .before)) .pre .2 in
     (fit .0, fit .1, omega arith, fit .2)
 
 behind-requires : tie.Need-behind-requires
@@ -91,12 +88,6 @@ behind-requires c κs =
     let put = put-few _ _ _ (held then .put .ensures) in
     let second = slot-few (fitted-ready (next-fit then .0)) _ _ (call .store-at .ensures) in
     (omega arith, omega arith, omega arith, omega arith)
-
-same-length : tie.Need-same-length
-same-length c = search needs
-
-same-length-2 : tie.Need-same-length-2
-same-length-2 c = search needs
 
 returns : tie.Need-returns
 returns c =
@@ -117,7 +108,6 @@ still-fit c =
 move-slot-requires : tie.Need-move-slot-requires
 move-slot-requires c κs =
     let fit = still-fit (c .before .before) in
-    let low = start (failed (c .before .before)) .pre .2 in
     (fit .0, fit .1, omega arith)
 
 behind-requires-2 : tie.Need-behind-requires-2
@@ -128,9 +118,6 @@ behind-requires-2 c κs =
     let move = move-few (fitted-ready (still-fit other .0)) _ _ (call .move-slot .ensures) in
     (omega arith, omega arith, omega arith, omega arith)
 
-is-stopped-requires : tie.Need-is-stopped-requires
-is-stopped-requires c κs = search needs
-
 -- the first slot is stored or stopped
 moved-first : (c : tie.After-behind2) → let s = start (failed (unheld c)) in let leaves = chip (moved c .move-slot .last .0) (moved c .move-slot .last .1 .0) in
     seen (c .behind2 .result .work) (c .behind2 .result .writes) (c .behind2 .result .tried) leaves ≡ view (storeSlot two (s .args .p) (s .args .nibble) (s .args .byte) (chip (s .args .image .now) (s .args .lives .now)))
@@ -138,12 +125,6 @@ moved-first c =
     let other = unheld c in
     c .behind2 .ensures _
     ∙ sym (slot-moved two _ _ _ _ (cells (failed other) .cells-of .ensures .0) (failed other .put .ensures) (other .if1 .left) (moved c .move-slot .ensures))
-
-same-length-3 : tie.Need-same-length-3
-same-length-3 c = search needs
-
-same-length-4 : tie.Need-same-length-4
-same-length-4 c = search needs
 
 returns-2 : tie.Need-returns-2
 returns-2 c = sym (said-stopped (storeSlot two _ _ _ _) (storeSlot two _ _ _) (moved-first (c .before .before)) (sym (c .before .is-stopped .ensures) ∙ c .if2 .taken))
@@ -158,7 +139,6 @@ settled : (c : tie.Else2) → let p = start (failed (unheld (first c))) .args .p
     (fitted two p t ≡ true) × (sound two p (pointers two p t) ≡ true)
 settled c =
     let s = start (failed (unheld (first c))) in
-    let low = s .pre .2 in
     slot-settled two _ _ (s .pre .0) (s .pre .1) _ _ (omega arith) (moved-first (first c)) (done c)
 
 add-store-slot : tie.Need-add-store-slot
@@ -179,19 +159,12 @@ behind-requires-3 c κs =
     (omega arith, omega arith, omega arith, omega arith)
 
 same-length-5 : tie.Need-same-length-5
-same-length-5 c =
-    let call = c .before .before .before .before .before in
-    let move = moved (first (call .before .before .before)) in
-    omega (arith, call .store-slot .kept, move .move-slot .kept, failed (move .before .before .before) .put .kept)
-
-same-length-6 : tie.Need-same-length-6
-same-length-6 c = search needs
+same-length-5 c = let move = moved (first (second c .before .before .before)) in omega arith
 
 returns-3 : tie.Need-returns-3
 returns-3 c =
-    let call = c .before .before .before .before .before in
-    let other = call .before .before .before in
-    c .behind3 .ensures _ ∙ behind-done (storeSlot two _ _ _ _) (storeSlot two _ _ _) (moved-first (first other)) (done other) (call .store-slot .ensures)
+    let other = second c .before .before .before in
+    c .behind3 .ensures _ ∙ behind-done (storeSlot two _ _ _ _) (storeSlot two _ _ _) (moved-first (first other)) (done other) (second c .store-slot .ensures)
 
 pub store-pair-spec : {M : Type 1} → statement M
 store-pair-spec =
@@ -199,21 +172,21 @@ store-pair-spec =
     (tie.spec
     cells-of-requires
     put-requires
-    add-store-at
+    (λ c. search needs)
     store-at-requires
     behind-requires
-    same-length
-    same-length-2
+    (λ c. search needs)
+    (λ c. search needs)
     returns
     move-slot-requires
     behind-requires-2
-    is-stopped-requires
-    same-length-3
-    same-length-4
+    (λ c κs. search needs)
+    (λ c. search needs)
+    (λ c. search needs)
     returns-2
     add-store-slot
     store-slot-requires
     behind-requires-3
     same-length-5
-    same-length-6
+    (λ c. search needs)
     returns-3)

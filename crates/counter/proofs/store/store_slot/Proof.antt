@@ -13,48 +13,30 @@ use Rattle.counter.proofs.store.store_slot.Statement.{statement}
 use Rattle.counter.proofs.store.store_slot.Tie as tie
 
 add-to : tie.Need-add-to
-add-to c =
-    let ready = fitted-ready (c .before .before .pre .0) in
-    let good = ready-placed ready in
-    omega (arith, ready-short ready)
-
-sub-pointer-of : tie.Need-sub-pointer-of
-sub-pointer-of c = search needs
-
-part-pointer-of-start : tie.Need-part-pointer-of-start
-part-pointer-of-start c = search needs
+add-to c = let ready = fitted-ready (c .before .before .pre .0) in omega (arith, ready-placed ready, ready-short ready)
 
 part-pointer-of-end : tie.Need-part-pointer-of-end
 part-pointer-of-end c = ready-placed (fitted-ready (c .before .before .before .pre .0)) .mapFits
 
-pointer-of-requires : tie.Need-pointer-of-requires
-pointer-of-requires c κs = search needs
+abbrev start : tie.After-pointer-of → tie.Start
+start c = c .before .before .before .before .before
 
 store-at-requires : tie.Need-store-at-requires
 store-at-requires c κs =
     let pointer = c .before .before in
-    let s = pointer .before .before .before .before .before in
+    let s = start pointer in
     (s .pre .0, s .pre .1, s .pre .2, pointer .pointer-of .ensures .0 ∙ ap (λ (map : List ℕ). pointerOf map (s .args .slot)) (map-part two (s .args .p) (s .args .image .now)))
-
-same-length : tie.Need-same-length
-same-length c = search needs
-
-same-length-2 : tie.Need-same-length-2
-same-length-2 c = search needs
-
-returns : tie.Need-returns
-returns c = search needs
 
 pub store-slot-spec : {M : Type 1} → statement M
 store-slot-spec =
     tie.close
     (tie.spec
     add-to
-    sub-pointer-of
-    part-pointer-of-start
+    (λ c. search needs)
+    (λ c. search needs)
     part-pointer-of-end
-    pointer-of-requires
+    (λ c κs. search needs)
     store-at-requires
-    same-length
-    same-length-2
-    returns)
+    (λ c. search needs)
+    (λ c. search needs)
+    (λ c. search needs))

@@ -9,26 +9,14 @@ use Rattle.counter.proofs.NextSpares.{spares-fit}
 use Rattle.counter.proofs.store.try_spares.Statement.{statement}
 use Rattle.counter.proofs.store.try_spares.Tie as tie
 
-spares-of-requires : tie.Need-spares-of-requires
-spares-of-requires c κs = search needs
-
-way-of-requires : tie.Need-way-of-requires
-way-of-requires c κs = search needs
-
-next-of-requires : tie.Need-next-of-requires
-next-of-requires c κs = search needs
+abbrev start : tie.After-spares-of → tie.Start
+start c = c .before .before .before .before .before
 
 walk-requires : tie.Need-walk-requires
 walk-requires c κs =
-    let s = c .before .before .before .before .before .before .before in
+    let s = start (c .before .before) in
     let fits : GapFits (length (now (s .args .image))) (s .args .gap) = record { first = s .pre .1; reach = s .pre .2; ordered = s .pre .3; inside = s .pre .4 } in
     (rw (c .before .before .spares-of .ensures, c .before .way-of .ensures, c .next-of .ensures) (spares-fit (kindOf (s .args .slot)) fits), s .pre .0)
-
-same-length : tie.Need-same-length
-same-length c = search needs
-
-same-length-2 : tie.Need-same-length-2
-same-length-2 c = search needs
 
 returns : tie.Need-returns
 unfolding trySpares
@@ -40,10 +28,10 @@ pub try-spares-spec : {M : Type 1} → statement M
 try-spares-spec =
     tie.close
     (tie.spec
-    spares-of-requires
-    way-of-requires
-    next-of-requires
+    (λ c κs. search needs)
+    (λ c κs. search needs)
+    (λ c κs. search needs)
     walk-requires
-    same-length
-    same-length-2
+    (λ c. search needs)
+    (λ c. search needs)
     returns)

@@ -9,15 +9,6 @@ use borrow.Author.Needs.{needs}
 use Rattle.counter.proofs.verdict.answer_of.Statement.{statement}
 use Rattle.counter.proofs.verdict.answer_of.Tie as tie
 
-enum-known-verdict : tie.Need-enum-known-verdict
-enum-known-verdict c = search needs
-
-enum-known-verdict-2 : tie.Need-enum-known-verdict-2
-enum-known-verdict-2 c = search needs
-
-refusal-of-requires : tie.Need-refusal-of-requires
-refusal-of-requires c κs = search needs
-
 returns : tie.Need-returns
 unfolding answerOf
 returns c =
@@ -35,4 +26,4 @@ returns-2 c =
 pub answer-of-spec : {M : Type 1} → statement M
 answer-of-spec =
     tie.close
-    (tie.spec enum-known-verdict enum-known-verdict-2 refusal-of-requires returns returns-2)
+    (tie.spec (λ c. search needs) (λ c. search needs) (λ c κs. search needs) returns returns-2)

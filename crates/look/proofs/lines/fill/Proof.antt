@@ -29,68 +29,51 @@ fits c =
     let told = c .struct-told .given in
     rw (toZ-ofZ (lag-fits c)) (lines-fit (A c) (told .0 .1) (told .1 .0 .1) (lag-fits c) (told .1 .1 .1 .0 .1))
 
-cast-code : tie.Need-cast-code
-cast-code c = search needs
+-- the line of the code, from that of the count, and that of the count, from that of the lag
+abbrev coded : tie.After-write-decimal-line2 → tie.After-write-decimal-line
+coded c = c .before .before .before .before .before
 
-cast-count : tie.Need-cast-count
-cast-count c = search needs
-
-slice-aggregate-write-decimal-line : tie.Need-slice-aggregate-write-decimal-line
-slice-aggregate-write-decimal-line c = search needs
+abbrev counted : tie.After-write-signed-line → tie.After-write-decimal-line2
+counted c = c .before .before .before .before .before
 
 write-decimal-line-requires : tie.Need-write-decimal-line-requires
 write-decimal-line-requires c κs = omega (arith, fits (c .before .before))
 
-slice-aggregate-write-decimal-line-2 : tie.Need-slice-aggregate-write-decimal-line-2
-slice-aggregate-write-decimal-line-2 c = search needs
-
 write-decimal-line-requires-2 : tie.Need-write-decimal-line-requires-2
-write-decimal-line-requires-2 c κs = omega (arith, fits (c .before .before .before .before .before .before .before))
-
-slice-aggregate-write-signed-line : tie.Need-slice-aggregate-write-signed-line
-slice-aggregate-write-signed-line c = search needs
+write-decimal-line-requires-2 c κs = let coded = c .before .before .before .before in omega (arith, fits (coded .before .before .before))
 
 write-signed-line-requires : tie.Need-write-signed-line-requires
-write-signed-line-requires c κs =
-    omega (arith, fits (c .before .before .before .before .before .before .before .before .before .before .before .before))
-
-slice-aggregate-write-decimal-line-3 : tie.Need-slice-aggregate-write-decimal-line-3
-slice-aggregate-write-decimal-line-3 c = search needs
+write-signed-line-requires c κs = let coded = coded (c .before .before .before .before) in omega (arith, fits (coded .before .before .before))
 
 write-decimal-line-requires-3 : tie.Need-write-decimal-line-requires-3
-write-decimal-line-requires-3 c κs =
-    omega (arith, fits (c .before .before .before .before .before .before .before .before .before .before .before .before .before .before .before .before .before))
-
-same-length : tie.Need-same-length
-same-length c = search needs
+write-decimal-line-requires-3 c κs = let coded = coded (counted (c .before .before .before .before)) in omega (arith, fits (coded .before .before .before))
 
 returns : tie.Need-returns
 unfolding lookText
 returns c =
     let placed = c .before .before in
     let lagged = placed .before .before .before .before .before in
-    let counted = lagged .before .before .before .before .before in
-    let coded = counted .before .before .before .before .before in
+    let counted = counted lagged in
+    let coded = coded counted in
     let told = coded .before .before .before in
     let given = told .struct-told .given in
     let room = text-fits (A told) (given .0 .1) (given .1 .0 .1) (lag-fits told) (given .1 .1 .1 .0 .1) in
-    wrote-four _ _ _ _ (omega (arith, room, told .before .before .before .before .pre))
-    (coded .write-decimal-line .ensures) (counted .write-decimal-line2 .ensures)
-    (rw (toZ-ofZ (lag-fits told)) at (lagged .write-signed-line .ensures)) (placed .write-decimal-line3 .ensures)
+    wrote-four _ _ _ _ (omega arith)
+    (coded .write-decimal-line .ensures) (counted .write-decimal-line2 .ensures) (rw (toZ-ofZ (lag-fits told)) at (lagged .write-signed-line .ensures)) (placed .write-decimal-line3 .ensures)
 
 pub fill-spec : {M : Type 1} → statement M
 fill-spec =
     tie.close
     (tie.spec
-    cast-code
-    cast-count
-    slice-aggregate-write-decimal-line
+    (λ c. search needs)
+    (λ c. search needs)
+    (λ c. search needs)
     write-decimal-line-requires
-    slice-aggregate-write-decimal-line-2
+    (λ c. search needs)
     write-decimal-line-requires-2
-    slice-aggregate-write-signed-line
+    (λ c. search needs)
     write-signed-line-requires
-    slice-aggregate-write-decimal-line-3
+    (λ c. search needs)
     write-decimal-line-requires-3
-    same-length
+    (λ c. search needs)
     returns)
