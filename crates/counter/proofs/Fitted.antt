@@ -2,7 +2,7 @@
 --   fitted-ready, ready-fitted  refusals 1 and 2 do not hold
 --   tests-ready               the three tests, one by one
 --   ready-short               an image has at most 4096 cells
-use Prim.Native.Nat.{ℕ, _+_, _≤_}
+use Prim.Native.Nat.{_+_, _≤_}
 use mathlib.Core.Path.{_≡_}
 use mathlib.Core.Bool.{true}
 use lib.Dec.{leb}

@@ -4,7 +4,7 @@
 --   SpareHeld, spare-held     what a spare that holds leaves for the pointer
 --   move-nowhere, move-at     a byte was moved, by what was found
 --   slot-put, slot-moved      a byte was put at its slot's cell, or moved
---   slot-same                 a put that fails leaves the chip as it was
+--   slot-still                a put that fails leaves the chip as it was, fit for the move
 --   slot-settled, store-settled  work that is done leaves a fitting chip with a sound map
 --   slot-others               and a slot that was stored leaves the others' pointers
 --   storeLeft, store-left-all, store-left-none, store-left-done, store-left-stopped  what is left of a store
@@ -17,7 +17,7 @@ use native.Mathlib.Omega.{arith}
 use lib.ListN.{length}
 use Rattle.cells.specs.declared.row.Found.{Found}
 use Rattle.cells.specs.declared.row.Found.the-variants.{At, Nowhere}
-use Rattle.cells.specs.Chip.{Chip, Paired}
+use Rattle.cells.specs.Chip.{Chip}
 use Rattle.cells.specs.Run.{Run, Seen, seen, view, plus, still}
 use Rattle.cells.specs.Log.{Within}
 use Rattle.cells.specs.Put.{putAt}
@@ -132,11 +132,14 @@ module _ (layout : Layout) (p : Places) (k b : ℕ) (s : Chip) {at : ℕ} (here 
       ∙ said-giving (first layout p k b s) first-said Done
       ∙ rw (ap (λ (w : Seen Bool). w .tried) first-said, put-tried)
 
-  -- a put that fails leaves the chip as it was
-  pub slot-same : Paired s → v .answer ≡ false → v .after ≡ s
-  slot-same paired h =
+  -- a put that fails leaves the chip as it was, fit for the move
+  pub slot-still :
+      fitted layout p s ≡ true → sound layout p (pointers layout p s) ≡ true → v .answer ≡ false
+      → (fitted layout p (v .after) ≡ true) × (sound layout p (pointers layout p (v .after)) ≡ true)
+  slot-still good well h =
       let r = first layout p k b s in
-      said-after r first-said ∙ ap (λ (q : Run Bool). q .after) (put-laws (pointers layout p s k) b s paired .unchanged (said-answer r first-said h))
+      let same = ap (λ (q : Run Bool). q .after) (put-laws (pointers layout p s k) b s (fitted-ready good .paired) .unchanged (said-answer r first-said h)) in
+      rw (said-after r first-said ∙ same) (good, well)
 
   pub slot-moved : v .answer ≡ false → {u : Seen Work} → u ≡ view (moveSlot layout p k b (v .after)) → view (storeSlot layout p k b s) ≡ plus (v .writes) 0 u
   slot-moved h {u} f =

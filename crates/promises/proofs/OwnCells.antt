@@ -1,6 +1,5 @@
 -- A call touches only cells of the map and of the area: every other cell and life, and how many there are, stay.
 --   open-keeps, step-keeps
-use Prim.Native.Nat.{ℕ}
 use Rattle.cells.specs.Chip.{Chip, Kept}
 use Rattle.cells.proofs.Logs.{within-kept}
 use Rattle.counter.specs.declared.places.Places.{Places}

@@ -34,7 +34,7 @@ use Rattle.counter.specs.Opening.{Taken, taken, takeFrom, putPointers, putMark,
 use Rattle.counter.proofs.Gaps.{Between, between-none, between-more, between-gap, between-unique, Spare, spare-free}
 use Rattle.counter.proofs.Ready.{Ready, ready-kept}
 use Rattle.counter.proofs.Tries.{askedSpares, Missing, Landing, Trying, Trying.missing, Trying.landing, try-laws}
-use Rattle.counter.proofs.Moves.{not-done, Ended.done, Ended.roomless, Ended.unmapped}
+use Rattle.counter.proofs.Moves.{not-done}
 use Rattle.counter.proofs.Takes.{TakeLaws, take-landing, take-missing, take-laws}
 use Rattle.counter.proofs.WorkSteps.{take-none, opening-on, opening-ends}
 use Rattle.counter.proofs.Openings.{MapEnded, MapEnded.put, MapEnded.failed, map-laws}

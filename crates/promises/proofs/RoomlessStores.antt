@@ -20,7 +20,6 @@ use Rattle.counter.specs.Verdict.{_andThen_}
 use Rattle.counter.specs.Store.{slotCode, storeSlot, storeFrom, store}
 use Rattle.counter.proofs.SoundPointers.{Sound}
 use Rattle.counter.proofs.Ready.{pointers, dataOf, Ready, ready-kept}
-use Rattle.counter.proofs.Tries.{Trying.missing, Trying.landing}
 use Rattle.counter.proofs.Moves.{change, not-done, Ended, Ended.done, Ended.roomless, Ended.unmapped, SlotLaws, slot-laws}
 use Rattle.counter.proofs.Stores.{done-then, stopped-then}
 use Rattle.counter.proofs.WorkSteps.{store-all, store-none, store-next}

@@ -14,7 +14,6 @@ use Rattle.counter.specs.declared.verdict.Answer.{Answer}
 use Rattle.counter.specs.declared.verdict.Verdict.{Verdict}
 use Rattle.counter.specs.declared.verdict.Verdict.the-variants.{Good, Refused}
 use Rattle.counter.specs.Layout.{Layout}
-use Rattle.counter.specs.Verdict.{outcomeOf}
 use Rattle.counter.specs.Doors.{stepRun, stepOf}
 use Rattle.promises.specs.Runs.{onward, stepsUpTo}
 use Rattle.counter.proofs.Ready.{Own}

@@ -1,7 +1,6 @@
 -- Refusals leave everything as it was, but for 8 and 9 (document 01, the table of refusals; condition 1).
 --   open-untouched, step-untouched
 -- Read and map part take the cells and give an answer: that they write nothing is their type.
-use Prim.Native.Nat.{ℕ}
 use mathlib.Core.Path.{_≡_, ap}
 use Rattle.cells.specs.Chip.{Chip}
 use Rattle.cells.specs.Run.{Run}

@@ -1,9 +1,9 @@
 -- `store::store_at` meets its contract: the put at the slot's cell holds, or leaves the chip as it was for the move.
-use mathlib.Core.Path.{_≡_, sym, ap, _∙_}
+use mathlib.Core.Path.{_≡_, sym, _∙_}
 use mathlib.Core.Bool.{true}
 use borrow.Author.Needs.{needs}
 use native.Mathlib.Omega.{arith}
-use Rattle.cells.specs.Chip.{Chip, chip}
+use Rattle.cells.specs.Chip.{chip}
 use Rattle.cells.proofs.Puts.{put-few}
 use Rattle.counter.specs.Layout.{two}
 use Rattle.counter.specs.Places.{fitted}
@@ -11,7 +11,7 @@ use Rattle.counter.specs.Map.{sound}
 use Rattle.counter.proofs.SoundPointers.{test-sound}
 use Rattle.counter.proofs.Ready.{pointers, inside-cell}
 use Rattle.counter.proofs.Fitted.{fitted-ready}
-use Rattle.counter.proofs.StoreViews.{slot-put, slot-same, slot-moved}
+use Rattle.counter.proofs.StoreViews.{slot-put, slot-still, slot-moved}
 use Rattle.counter.proofs.StoreCosts.{move-few}
 use Rattle.counter.proofs.store.store_at.Statement.{statement}
 use Rattle.counter.proofs.store.store_at.Tie as tie
@@ -40,8 +40,7 @@ still-fit : (c : tie.Else1) → let s = start (failed c) in
     (fitted two (s .args .p) t ≡ true) × (sound two (s .args .p) (pointers two (s .args .p) t) ≡ true)
 still-fit c =
     let s = start (failed c) in
-    let same = slot-same two (s .args .p) (s .args .slot) _ _ (s .pre .3) (failed c .put .ensures) (fitted-ready (s .pre .0) .paired) (c .if1 .left) in
-    (ap (fitted two (s .args .p)) same ∙ s .pre .0, ap (λ (t : Chip). sound two (s .args .p) (pointers two (s .args .p) t)) same ∙ s .pre .1)
+    slot-still two _ _ _ _ (s .pre .3) (failed c .put .ensures) (s .pre .0) (s .pre .1) (c .if1 .left)
 
 move-slot-requires : tie.Need-move-slot-requires
 move-slot-requires c κs =

@@ -1,10 +1,10 @@
 -- `store::store_pair` meets its contract: the first slot, stored where its cell is or moved, leaves the chip fit for the second.
 use Prim.Native.Nat.{_+_}
-use mathlib.Core.Path.{_≡_, refl, sym, ap, _∙_}
+use mathlib.Core.Path.{_≡_, refl, sym, _∙_}
 use mathlib.Core.Bool.{true, false}
 use borrow.Author.Needs.{needs}
 use native.Mathlib.Omega.{arith}
-use Rattle.cells.specs.Chip.{Chip, chip}
+use Rattle.cells.specs.Chip.{chip}
 use Rattle.cells.specs.Run.{seen, view}
 use Rattle.cells.proofs.Puts.{put-few}
 use Rattle.counter.specs.declared.verdict.Work.the-variants.{Done}
@@ -17,7 +17,7 @@ use Rattle.counter.proofs.SoundPointers.{test-sound}
 use Rattle.counter.proofs.Ready.{pointers, inside-cell}
 use Rattle.counter.proofs.Fitted.{fitted-ready}
 use Rattle.counter.proofs.Behind.{behind-done, said-stopped}
-use Rattle.counter.proofs.StoreViews.{slot-put, slot-same, slot-moved, slot-settled, slot-others}
+use Rattle.counter.proofs.StoreViews.{slot-put, slot-still, slot-moved, slot-settled, slot-others}
 use Rattle.counter.proofs.StoreCosts.{move-few, slot-few}
 use Rattle.counter.proofs.store.store_pair.Statement.{statement}
 use Rattle.counter.proofs.store.store_pair.Tie as tie
@@ -102,8 +102,7 @@ still-fit : (c : tie.Else1) → let p = start (failed c) .args .p in
     (fitted two p t ≡ true) × (sound two p (pointers two p t) ≡ true)
 still-fit c =
     let s = start (failed c) in
-    let same = slot-same two (s .args .p) (s .args .nibble) _ _ (cells (failed c) .cells-of .ensures .0) (failed c .put .ensures) (fitted-ready (s .pre .0) .paired) (c .if1 .left) in
-    (ap (fitted two (s .args .p)) same ∙ s .pre .0, ap (λ (t : Chip). sound two (s .args .p) (pointers two (s .args .p) t)) same ∙ s .pre .1)
+    slot-still two _ _ _ _ (cells (failed c) .cells-of .ensures .0) (failed c .put .ensures) (s .pre .0) (s .pre .1) (c .if1 .left)
 
 move-slot-requires : tie.Need-move-slot-requires
 move-slot-requires c κs =
