@@ -29,7 +29,6 @@ use Rattle.counter.specs.Doors.{openRun, stepRun, openOf, stepOf, readOf
 
 -- a refusal has another code than 0
 refusal-code : (why : Refusal) (writes tried : ℕ) → 1 ≤ refusalOf why writes tried .code
-unfolding refusalOf
 refusal-code BadLength w t = omega arith
 refusal-code BadPlaces w t = omega arith
 refusal-code NoMark w t = omega arith
@@ -48,7 +47,6 @@ code-good (Good c lag) w t e = (c, lag, refl)
 code-good (Refused why) w t e = let h = refusal-code why w t in absurd (omega arith)
 
 refusal-eight : (why : Refusal) (writes tried : ℕ) → refusalOf why writes tried .code ≡ 8 → why ≡ NoSpare (refusalOf why writes tried .place)
-unfolding refusalOf
 refusal-eight BadLength w t e = absurd (omega arith)
 refusal-eight BadPlaces w t e = absurd (omega arith)
 refusal-eight NoMark w t e = absurd (omega arith)
@@ -77,15 +75,15 @@ module _ (r : Run Verdict) where
   refused-code {why} e = rw e (refusal-code why (length (r .log)) (r .tried))
 
   pub spareless-code : {k : ℕ} → r .answer ≡ Refused (NoSpare k) → outcomeOf r .says .code ≡ 8
-  unfolding answerOf refusalOf
+  unfolding answerOf
   spareless-code e = rw e
 
   pub spareless-place : {k : ℕ} → r .answer ≡ Refused (NoSpare k) → outcomeOf r .says .place ≡ k
-  unfolding answerOf refusalOf
+  unfolding answerOf
   spareless-place e = rw e
 
   pub mapless-code : {a : ℕ} → r .answer ≡ Refused (MapByte a) → outcomeOf r .says .code ≡ 9
-  unfolding answerOf refusalOf
+  unfolding answerOf
   mapless-code e = rw e
 
 -- ## The doors

@@ -1,6 +1,5 @@
 -- The map inside an image: its bytes, its mark and its pointers, by the cells they lie in.
 --   map-byte                  byte j of the map is the cell j behind its place
---   map-part                  the part of the image that starts at the map's place is the map
 --   map-whole                 it is whole where the settings are good
 --   map-same                  images that agree on the map's cells have the same map
 --   pointer-same              maps that agree on a pointer's bytes have the same pointer
@@ -8,13 +7,13 @@
 --   mark-same                 maps that agree on the first two bytes are marked alike
 --   mark-put                  the mark's two bytes are a mark
 --   mark-none                 a map that starts with another byte has none
-use Prim.Native.Nat.{ℕ, _+_, _/_, _%_, _≤_, _<_, _-_}
+use Prim.Native.Nat.{ℕ, _+_, _/_, _%_, _≤_, _<_}
 use mathlib.Core.Path.{_≡_, sym, _∙_}
 use mathlib.Core.Bool.{true, false}
 use mathlib.Core.List.{List}
 use native.Mathlib.Nat.{add-zero}
 use native.Mathlib.Omega.{arith}
-use lib.ListN.{length, getD, drop, length-take, length-drop, take}
+use lib.ListN.{length, getD, drop, length-take, length-drop}
 use lib.Seq.{getD-take, getD-drop, ext-getD}
 use borrow.Author.Tests.{ne-eqb}
 use Rattle.counter.specs.declared.map.Kind.{Kind}
@@ -87,9 +86,6 @@ mark-put map e f = rw (e, f)
 pub mark-none : (map : List ℕ) → (byteAt map 0 ≡ 0xA5 → ⊥) → marked map ≡ false
 unfolding marked
 mark-none map other = rw (ne-eqb _ _ other)
-
-pub map-part : (layout : Layout) (p : Places) (cells : List ℕ) → take (p .map + mapCells layout - p .map) (drop (p .map) cells) ≡ mapIn layout p cells
-map-part layout p cells = let e : p .map + mapCells layout - p .map ≡ mapCells layout = omega arith in rw e
 
 pub map-whole : {layout : Layout} {p : Places} (cells : List ℕ) → Placed layout (length cells) p → length (mapIn layout p cells) ≡ mapCells layout
 map-whole cells good = let fits = good .mapFits in simp (length-take, length-drop) (omega arith)

@@ -24,7 +24,7 @@ abbrev pub refused : ℕ → ℕ → Answer
 refused code place = answer code 0 (pos 0) place 0 0
 
 -- the answer of a refused call that had asked for so many writes and tried so many spares
-unfoldable pub refusalOf : Refusal → ℕ → ℕ → Answer
+abbrev pub refusalOf : Refusal → ℕ → ℕ → Answer
 refusalOf BadLength writes tried = refused 1 0
 refusalOf BadPlaces writes tried = refused 2 0
 refusalOf NoMark writes tried = refused 3 0

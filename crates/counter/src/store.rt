@@ -167,9 +167,7 @@ fn store_slot(image: &mut [u8], lives: &mut [u32], p: Places, slot: usize, byte:
     requires { ⌜ (fitted two p (chip (now image) (now lives)) ≡ true) × (sound two p (pointerOf (mapIn two p (now image))) ≡ true) × (slot < slots two) ⌝ }
     ensures { λ r. ⌜ seen (r .work) (r .writes) (r .tried) (chip (now (image .exit)) (now (lives .exit))) ≡ view (storeSlot two p slot byte (chip (now (image .entry)) (now (lives .entry)))) ⌝ }
 {
-    let from = p.map;
-    let to = from + Map::SIZE;
-    let at = pointer_of(&image[from..to], slot);
+    let at = pointer_of(Map::at(p.map).cells(image), slot);
     store_at(image, lives, p, slot, at, byte)
 }
 

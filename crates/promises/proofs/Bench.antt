@@ -20,7 +20,7 @@ use Rattle.counter.specs.Layout.{two}
 use Rattle.counter.specs.Slots.{kindOf, every, some, lowest}
 use Rattle.counter.specs.Places.{places, lengthGood, placesGood}
 use Rattle.counter.specs.Map.{marked, offsetIn, offsetOf, pointerAt, pointerOf, reachable, inOrder, sound}
-use Rattle.counter.specs.Verdict.{answer, refusalOf, answerOf}
+use Rattle.counter.specs.Verdict.{answer, answerOf}
 use Rattle.counter.specs.Reading.{firstRead, nibbleIn, countIn, close, decide, weigh, examine, verdictOf}
 use Rattle.counter.specs.Doors.{readOf}
 
@@ -73,5 +73,5 @@ bench =
 
 -- in each case the definitions answer what the paper says
 pub holds : map (λ r. r .found) bench ≡ map (λ r. r .paper) bench
-unfolding codes distance nearFrom near readingOf twofold isLost nibbleRead bits grayOf halvesOf countOf wordOf ones kindOf every some lowest lengthGood placesGood marked offsetIn offsetOf pointerAt pointerOf reachable inOrder sound refusalOf answerOf firstRead nibbleIn countIn close decide weigh examine verdictOf readOf
+unfolding codes distance nearFrom near readingOf twofold isLost nibbleRead bits grayOf halvesOf countOf wordOf ones kindOf every some lowest lengthGood placesGood marked offsetIn offsetOf pointerAt pointerOf reachable inOrder sound answerOf firstRead nibbleIn countIn close decide weigh examine verdictOf readOf
 holds = refl

@@ -24,7 +24,7 @@ use Rattle.counter.specs.Slots.{kindOf, every, some, lowest}
 use Rattle.counter.specs.Places.{settingA, places, lengthGood, placesGood, livesGood, fitted}
 use Rattle.counter.specs.Map.{marked, offsetIn, offsetOf, pointerAt, pointerOf, pointerBytes, reachable, inOrder, sound}
 use Rattle.counter.specs.Spares.{wholeArea, narrow, gapTo, gapOf, wayOf, nextOf, sparesOf}
-use Rattle.counter.specs.Verdict.{refusalOf, answerOf}
+use Rattle.counter.specs.Verdict.{answerOf}
 use Rattle.counter.specs.Reading.{firstRead, nibbleIn, countIn, close, decide, weigh, examine, verdictOf}
 use Rattle.counter.specs.Store.{slotCode, mapped, putPointer, trySpares, moveTo, moveSlot, storeSlot, storeFrom, store}
 use Rattle.counter.specs.Opening.{takeFrom, putPointers, putMark, firstOpening}
@@ -60,5 +60,5 @@ abbrev measure : Chip → (List ℕ) × ℕ
 measure s = (map (λ (a : Answer). a .code) (stepsAfter 2 two tight s .answer), dataWrites tight (stepsAfter 2 two tight s .log))
 
 pub sharp : (measure (smallest 9 9) ≡ (0 ∷ 0 ∷ [], dataBound two 2 tight)) × (measure (smallest 1 9) ≡ (8 ∷ [], dataBound two 0 tight + 1))
-unfolding codes codeOf distance ones nearFrom near readingOf twofold isLost nibbleRead bits grayOf halvesOf countOf nibbleOf wordOf writeAt askedIn putAt next tryAt walk putRow kindOf every some lowest lengthGood placesGood marked offsetIn offsetOf pointerAt pointerOf pointerBytes reachable inOrder sound wholeArea narrow gapTo gapOf wayOf nextOf sparesOf refusalOf answerOf firstRead nibbleIn countIn close decide weigh examine verdictOf slotCode mapped putPointer trySpares moveTo moveSlot storeSlot storeFrom store takeFrom putPointers putMark firstOpening livesGood chipVerdict openRun stepRun stepsUpTo dataBound fitted
+unfolding codes codeOf distance ones nearFrom near readingOf twofold isLost nibbleRead bits grayOf halvesOf countOf nibbleOf wordOf writeAt askedIn putAt next tryAt walk putRow kindOf every some lowest lengthGood placesGood marked offsetIn offsetOf pointerAt pointerOf pointerBytes reachable inOrder sound wholeArea narrow gapTo gapOf wayOf nextOf sparesOf answerOf firstRead nibbleIn countIn close decide weigh examine verdictOf slotCode mapped putPointer trySpares moveTo moveSlot storeSlot storeFrom store takeFrom putPointers putMark firstOpening livesGood chipVerdict openRun stepRun stepsUpTo dataBound fitted
 sharp = (refl, refl)
