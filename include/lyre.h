@@ -8,7 +8,11 @@
      uint32_t asks;
    - the two buffers do not overlap, and nobody else uses them during a call.
    Every length, place and content is allowed besides: what is not good is refused with a number. No function of the C library
-   is needed, no memory is asked for, and nothing is kept between calls. */
+   is needed, no memory is asked for, and nothing is kept between calls.
+
+   The image is memory that the caller lends, and not the device: the caller reads the chip into it and writes it back, and the
+   archive touches no device. As is lawful for lent memory, compiled code may take a byte that it has just stored there to be
+   there; where a caller maps a device in its place, that what is read back is what a real cell holds is the caller's matter. */
 
 #ifndef LYRE_H
 #define LYRE_H

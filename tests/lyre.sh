@@ -56,12 +56,14 @@ refused 2 'usage: ./lyre help' help look
 refused 2 'usage: ./lyre look [FILE]' look one two
 refused 1 "$work/missing: " look "$work/missing"
 refused 1 "$work: " look "$work"
+refused 1 'standard input: is closed' look <&-
 same
 same examples/setting-a.bin
 same "$work/missing"
 same one two
 
-# When rt is called, in a house and with a kit that are made up: there rt leaves a program, and ends as the file `ends` says.
+# When rt is called, in a house and with a kit that are made up: there rt leaves a program, as long as the kit has it, and ends as the
+# file `ends` says.
 kit=$work/kit
 house=$work/house
 emulator=$kit/on/$(uname -m)/toolchain/bin/qemu-x86_64
@@ -71,7 +73,7 @@ printf '#!/bin/sh\necho looked\n' >"$kit/look"
 cat >"$kit/bin/rt" <<END
 #!/bin/sh
 mkdir -p target/bin
-cp $kit/look target/bin
+[ ! -x $kit/look ] || cp $kit/look target/bin
 echo 'rt: look proved (1 s)'
 exit \$(cat $kit/ends)
 END
@@ -100,4 +102,7 @@ built 0 yes 'with another kit'
 built 0 no 'with that kit again'
 touch -d '1 hour' "$house/crates"
 built 0 yes 'after a change'
+rm "$kit/look" "$house/target/bin/look"
+built 1 yes 'where the program is gone'
+[ "$(tail -n 1 "$work/said")" = 'lyre look: the program cannot be built' ] || fail 'it does not say that the program cannot be built'
 echo 'lyre: does what its help says'

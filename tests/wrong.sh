@@ -7,6 +7,9 @@ cd "$(dirname "$0")/.."
 kind=quick
 [ "${1:-}" != whole ] || { kind=whole; shift; }
 [ $# -gt 0 ] || set -- $(ls -d crates/*/wrong | cut -d / -f 2)
+for crate in "$@"; do
+    [ -d "crates/$crate/wrong" ] || { echo "wrong: there is no folder crates/$crate/wrong"; exit 1; }
+done
 work=$(mktemp -d)
 trap 'rm -rf "$work"' EXIT
 tried=0

@@ -139,7 +139,22 @@ fn move_slot(image: &mut [u8], lives: &mut [u32], p: Places, slot: usize, byte: 
     }
 }
 
-// A byte put at a slot's cell, whose address is known, and moved if the put fails.
+// A byte moved behind work that took so many writes. What a move needs is laid out here, apart from what is usual.
+fn move_behind(
+    image: &mut [u8],
+    lives: &mut [u32],
+    p: Places,
+    slot: usize,
+    byte: u8,
+    writes: usize,
+) -> Stored
+    requires { ⌜ (fitted two p (chip (now image) (now lives)) ≡ true) × (sound two p (pointerOf (mapIn two p (now image))) ≡ true) × (slot < slots two) × (writes ≤ 2) ⌝ }
+    ensures { λ r. ⌜ seen (r .work) (r .writes) (r .tried) (chip (now (image .exit)) (now (lives .exit))) ≡ plus writes 0 (view (moveSlot two p slot byte (chip (now (image .entry)) (now (lives .entry))))) ⌝ }
+{
+    behind(writes, 0, move_slot(image, lives, p, slot, byte))
+}
+
+// A byte put at a slot's cell, whose address is known, and moved if the put fails: behind work that took so many writes.
 fn store_at(
     image: &mut [u8],
     lives: &mut [u32],
@@ -147,19 +162,21 @@ fn store_at(
     slot: usize,
     at: usize,
     byte: u8,
+    writes: usize,
 ) -> Stored
-    requires { ⌜ (fitted two p (chip (now image) (now lives)) ≡ true) × (sound two p (pointerOf (mapIn two p (now image))) ≡ true) × (slot < slots two) × (at ≡ pointerOf (mapIn two p (now image)) slot) ⌝ }
-    ensures { λ r. ⌜ seen (r .work) (r .writes) (r .tried) (chip (now (image .exit)) (now (lives .exit))) ≡ view (storeSlot two p slot byte (chip (now (image .entry)) (now (lives .entry)))) ⌝ }
+    requires { ⌜ (fitted two p (chip (now image) (now lives)) ≡ true) × (sound two p (pointerOf (mapIn two p (now image))) ≡ true) × (slot < slots two) × (at ≡ pointerOf (mapIn two p (now image)) slot) × (writes ≤ 1) ⌝ }
+    ensures { λ r. ⌜ seen (r .work) (r .writes) (r .tried) (chip (now (image .exit)) (now (lives .exit))) ≡ plus writes 0 (view (storeSlot two p slot byte (chip (now (image .entry)) (now (lives .entry))))) ⌝ }
 {
     let done = put(image, lives, at, byte);
+    let asked = writes + done.writes;
     if done.held {
         return Stored {
             work: Work::Done,
-            writes: done.writes,
+            writes: asked,
             tried: 0,
         };
     }
-    behind(done.writes, 0, move_slot(image, lives, p, slot, byte))
+    move_behind(image, lives, p, slot, byte, asked)
 }
 
 // A byte stored in a slot.
@@ -168,7 +185,7 @@ fn store_slot(image: &mut [u8], lives: &mut [u32], p: Places, slot: usize, byte:
     ensures { λ r. ⌜ seen (r .work) (r .writes) (r .tried) (chip (now (image .exit)) (now (lives .exit))) ≡ view (storeSlot two p slot byte (chip (now (image .entry)) (now (lives .entry)))) ⌝ }
 {
     let at = pointer_of(Map::at(p.map).cells(image), slot);
-    store_at(image, lives, p, slot, at, byte)
+    store_at(image, lives, p, slot, at, byte, 0)
 }
 
 // A count stored: copy 1, nibbles 0 to 7, then copy 2 the same.
@@ -246,13 +263,9 @@ fn store_pair(image: &mut [u8], lives: &mut [u32], p: Places, nibble: usize, byt
     let other = cells.other;
     let taken = put(image, lives, one, byte);
     if taken.held {
-        return behind(
-            taken.writes,
-            0,
-            store_at(image, lives, p, 8 + nibble, other, byte),
-        );
+        return store_at(image, lives, p, 8 + nibble, other, byte, taken.writes);
     }
-    let first = behind(taken.writes, 0, move_slot(image, lives, p, nibble, byte));
+    let first = move_behind(image, lives, p, nibble, byte, taken.writes);
     if is_stopped(first) {
         return first;
     }

@@ -18,7 +18,7 @@ use Rattle.counter.proofs.Ready.{pointers, inside-cell}
 use Rattle.counter.proofs.Fitted.{fitted-ready}
 use Rattle.counter.proofs.Behind.{behind-done, said-stopped}
 use Rattle.counter.proofs.StoreViews.{slot-put, slot-still, slot-moved, slot-settled, slot-others}
-use Rattle.counter.proofs.StoreCosts.{move-few, slot-few}
+use Rattle.counter.proofs.StoreCosts.{slot-few}
 use Rattle.counter.proofs.store.store_pair.Statement.{statement}
 use Rattle.counter.proofs.store.store_pair.Tie as tie
 
@@ -36,16 +36,14 @@ held c = c .before .before .before .before .before
 abbrev failed : tie.Else1 → tie.After-put
 failed c = c .before .before .before .before .before
 
-abbrev moved : tie.After-behind2 → tie.After-move-slot
-moved c = c .before .before .before .before .before
+abbrev unheld : tie.After-move-behind → tie.Else1
+unheld c = c .before .before .before
 
-abbrev unheld : tie.After-behind2 → tie.Else1
-unheld c = moved c .before .before .before
+-- the move of the first slot, behind which comes the second
+abbrev first : tie.Else2 → tie.After-move-behind
+first c = c .before .before .before .before .before .before
 
-abbrev first : tie.Else2 → tie.After-behind2
-first c = c .before .before
-
-abbrev second : tie.After-behind3 → tie.After-store-slot
+abbrev second : tie.After-behind → tie.After-store-slot
 second c = c .before .before .before .before .before
 
 -- ## The put at the first slot's cell
@@ -78,21 +76,14 @@ next-fit c =
 
 store-at-requires : tie.Need-store-at-requires
 store-at-requires c κs =
-    let fit = next-fit (c .before .before) in
-    (fit .0, fit .1, omega arith, fit .2)
-
-behind-requires : tie.Need-behind-requires
-behind-requires c κs =
-    let call = c .before .before .before .before in
-    let then = call .before .before .before in
-    let put = put-few _ _ _ (held then .put .ensures) in
-    let second = slot-few (fitted-ready (next-fit then .0)) _ _ (call .store-at .ensures) in
-    (omega arith, omega arith, omega arith, omega arith)
+    let then = c .before .before in
+    let fit = next-fit then in
+    (fit .0, fit .1, omega arith, fit .2, put-few _ _ _ (held then .put .ensures))
 
 returns : tie.Need-returns
 returns c =
-    let call = c .before .before .before .before .before in
-    c .behind .ensures _ ∙ behind-done (storeSlot two _ _ _ _) (storeSlot two _ _ _) (stored (call .before .before .before)) refl (call .store-at .ensures)
+    let call = c .before .before .before .before in
+    call .store-at .ensures ∙ behind-done (storeSlot two _ _ _ _) (storeSlot two _ _ _) (stored (call .before .before .before)) refl refl
 
 -- ## It fails
 
@@ -104,37 +95,31 @@ still-fit c =
     let s = start (failed c) in
     slot-still two _ _ _ _ (cells (failed c) .cells-of .ensures .0) (failed c .put .ensures) (s .pre .0) (s .pre .1) (c .if1 .left)
 
-move-slot-requires : tie.Need-move-slot-requires
-move-slot-requires c κs =
-    let fit = still-fit (c .before .before) in
-    (fit .0, fit .1, omega arith)
-
-behind-requires-2 : tie.Need-behind-requires-2
-behind-requires-2 c κs =
-    let call = c .before .before .before .before in
-    let other = call .before .before .before in
-    let put = put-few _ _ _ (failed other .put .ensures) in
-    let move = move-few (fitted-ready (still-fit other .0)) _ _ (call .move-slot .ensures) in
-    (omega arith, omega arith, omega arith, omega arith)
+move-behind-requires : tie.Need-move-behind-requires
+move-behind-requires c κs =
+    let other = c .before .before in
+    let low = start (failed other) .pre .2 in
+    (still-fit other .0, still-fit other .1, omega arith, omega (arith, put-few _ _ _ (failed other .put .ensures)))
 
 -- the first slot is stored or stopped
-moved-first : (c : tie.After-behind2) → let s = start (failed (unheld c)) in let leaves = chip (moved c .move-slot .last .0) (moved c .move-slot .last .1 .0) in
-    seen (c .behind2 .result .work) (c .behind2 .result .writes) (c .behind2 .result .tried) leaves ≡ view (storeSlot two (s .args .p) (s .args .nibble) (s .args .byte) (chip (s .args .image .now) (s .args .lives .now)))
+moved-first : (c : tie.After-move-behind) → let s = start (failed (unheld c)) in let move = c .move-behind in
+    seen (move .result .work) (move .result .writes) (move .result .tried) (chip (move .last .0) (move .last .1 .0)) ≡ view (storeSlot two (s .args .p) (s .args .nibble) (s .args .byte) (chip (s .args .image .now) (s .args .lives .now)))
 moved-first c =
     let other = unheld c in
-    c .behind2 .ensures _
-    ∙ sym (slot-moved two _ _ _ _ (cells (failed other) .cells-of .ensures .0) (failed other .put .ensures) (other .if1 .left) (moved c .move-slot .ensures))
+    c .move-behind .ensures ∙ sym (slot-moved two _ _ _ _ (cells (failed other) .cells-of .ensures .0) (failed other .put .ensures) (other .if1 .left) refl)
 
 returns-2 : tie.Need-returns-2
-returns-2 c = sym (said-stopped (storeSlot two _ _ _ _) (storeSlot two _ _ _) (moved-first (c .before .before)) (sym (c .before .is-stopped .ensures) ∙ c .if2 .taken))
+returns-2 c =
+    let move = c .before .before .before .before .before .before in
+    sym (said-stopped (storeSlot two _ _ _ _) (storeSlot two _ _ _) (moved-first move) (sym (c .before .is-stopped .ensures) ∙ c .if2 .taken))
 
 -- it was not stopped
-done : (c : tie.Else2) → stopped (first c .behind2 .result .work) ≡ false
+done : (c : tie.Else2) → stopped (first c .move-behind .result .work) ≡ false
 done c = sym (c .before .is-stopped .ensures) ∙ c .if2 .left
 
 -- and leaves the chip fit for the second
 settled : (c : tie.Else2) → let p = start (failed (unheld (first c))) .args .p in
-    let t = chip (moved (first c) .move-slot .last .0) (moved (first c) .move-slot .last .1 .0) in
+    let t = chip (first c .move-behind .last .0) (first c .move-behind .last .1 .0) in
     (fitted two p t ≡ true) × (sound two p (pointers two p t) ≡ true)
 settled c =
     let s = start (failed (unheld (first c))) in
@@ -149,8 +134,8 @@ store-slot-requires c κs =
     let low = start (failed (unheld (first (c .before .before)))) .pre .2 in
     (fit .0, fit .1, omega arith)
 
-behind-requires-3 : tie.Need-behind-requires-3
-behind-requires-3 c κs =
+behind-requires : tie.Need-behind-requires
+behind-requires c κs =
     let call = c .before .before .before .before in
     let other = call .before .before .before in
     let one = slot-few (fitted-ready (start (failed (unheld (first other))) .pre .0)) _ _ (moved-first (first other)) in
@@ -158,12 +143,12 @@ behind-requires-3 c κs =
     (omega arith, omega arith, omega arith, omega arith)
 
 same-length-5 : tie.Need-same-length-5
-same-length-5 c = let move = moved (first (second c .before .before .before)) in omega arith
+same-length-5 c = let move = first (second c .before .before .before) in omega arith
 
 returns-3 : tie.Need-returns-3
 returns-3 c =
     let other = second c .before .before .before in
-    c .behind3 .ensures _ ∙ behind-done (storeSlot two _ _ _ _) (storeSlot two _ _ _) (moved-first (first other)) (done other) (second c .store-slot .ensures)
+    c .behind .ensures _ ∙ behind-done (storeSlot two _ _ _ _) (storeSlot two _ _ _) (moved-first (first other)) (done other) (second c .store-slot .ensures)
 
 pub store-pair-spec : {M : Type 1} → statement M
 store-pair-spec =
@@ -173,19 +158,17 @@ store-pair-spec =
     put-requires
     (λ c. search needs)
     store-at-requires
-    behind-requires
     (λ c. search needs)
     (λ c. search needs)
     returns
-    move-slot-requires
-    behind-requires-2
+    move-behind-requires
     (λ c κs. search needs)
     (λ c. search needs)
     (λ c. search needs)
     returns-2
     add-store-slot
     store-slot-requires
-    behind-requires-3
+    behind-requires
     same-length-5
     (λ c. search needs)
     returns-3)

@@ -2,6 +2,7 @@
 use mathlib.Core.Path.{_≡_, ap, _∙_}
 use mathlib.Core.List.{List}
 use borrow.Author.Needs.{needs}
+use native.Mathlib.Nat.{zero-add}
 use native.Mathlib.Omega.{arith}
 use lib.ListN.{take, drop}
 use Rattle.counter.specs.Layout.{two, mapCells}
@@ -29,7 +30,10 @@ store-at-requires : tie.Need-store-at-requires
 store-at-requires c κs =
     let pointer = c .before .before in
     let s = start (pointer .before) in
-    (s .pre .0, s .pre .1, s .pre .2, pointer .pointer-of .ensures .0 ∙ ap (λ (map : List _). pointerOf map (s .args .slot)) (map (pointer .before)))
+    (s .pre .0, s .pre .1, s .pre .2, pointer .pointer-of .ensures .0 ∙ ap (λ (map : List _). pointerOf map (s .args .slot)) (map (pointer .before)), omega arith)
+
+returns : tie.Need-returns
+returns c = c .before .before .before .before .store-at .ensures ∙ simp zero-add
 
 pub store-slot-spec : {M : Type 1} → statement M
 store-slot-spec =
@@ -41,4 +45,4 @@ store-slot-spec =
     store-at-requires
     (λ c. search needs)
     (λ c. search needs)
-    (λ c. search needs))
+    returns)
