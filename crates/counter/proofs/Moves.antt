@@ -86,7 +86,7 @@ module _ (layout : Layout) (p : Places) (k b : ℕ) (s : Chip) where
   unfolding moveSlot moveTo
   move-missing e = rw e
 
-  pub move-landing : (a : ℕ) → tries .answer ≡ At a → moveSlot layout p k b s ≡ tries then putPointer p k a (tries .after)
+  pub move-landing : (a : ℕ) → tries .answer ≡ At a → moveSlot layout p k b s ≡ tries then putPointer layout p k a (tries .after)
   unfolding moveSlot moveTo
   move-landing a e = rw e
 
@@ -119,7 +119,7 @@ module _ {layout : Layout} {p : Places} {s : Chip} (ready : Ready layout p s) (s
     landed = tries layout p k b s .after
 
     abbrev puts : Run Work
-    puts = putPointer p k (m .place) landed
+    puts = putPointer layout p k (m .place) landed
 
     landed-map : mapIn layout p (landed .cells) ≡ mapIn layout p (s .cells)
     landed-map = map-kept ready (within-kept tries-within)

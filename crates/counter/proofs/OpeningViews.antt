@@ -266,37 +266,37 @@ take-few (suc n) k g s paired = go (try-laws k g (codeOf 0) s paired .trying) (�
 
 -- ## The map
 
-pointers-cost : (addresses : List ℕ) (k : ℕ) (p : Places) (s : Chip) → Few (2 * length addresses) (view (putPointers addresses k p s))
+pointers-cost : (layout : Layout) (addresses : List ℕ) (k : ℕ) (p : Places) (s : Chip) → Few (2 * length addresses) (view (putPointers addresses k layout p s))
 unfolding putPointers
-pointers-cost [] k p s = (omega arith, refl)
-pointers-cost (a ∷ rest) k p s =
+pointers-cost layout [] k p s = (omega arith, refl)
+pointers-cost layout (a ∷ rest) k p s =
     let sum : 2 * suc (length rest) ≡ 2 + 2 * length rest = omega arith in
-    rw sum (then-few (putPointer p k a s) (putPointers rest (k + 1) p) (pointer-few p k a s refl) (pointers-cost rest (k + 1) p (putPointer p k a s .after)))
+    rw sum (then-few (putPointer layout p k a s) (putPointers rest (k + 1) layout p) (pointer-few layout p k a s refl) (pointers-cost layout rest (k + 1) p (putPointer layout p k a s .after)))
 
-pub pointers-few : (addresses : List ℕ) (p : Places) (s : Chip) {v : Seen Work} → v ≡ view (putPointers addresses 0 p s) → (v .writes ≤ 2 * length addresses) × (v .tried ≡ 0)
-pointers-few addresses p s e = rw e (pointers-cost addresses 0 p s)
+pub pointers-few : (layout : Layout) (addresses : List ℕ) (p : Places) (s : Chip) {v : Seen Work} → v ≡ view (putPointers addresses 0 layout p s) → (v .writes ≤ 2 * length addresses) × (v .tried ≡ 0)
+pointers-few layout addresses p s e = rw e (pointers-cost layout addresses 0 p s)
 
-pub mark-said : (p : Places) (s : Chip) {v : Seen Found} → v ≡ view (putRow markBytes (p .map) s) → view (putMark p s) ≡ seen (mapped (v .answer)) (v .writes) (v .tried) (v .after)
+pub mark-said : (layout : Layout) (p : Places) (s : Chip) {v : Seen Found} → v ≡ view (putRow markBytes (p .map) s) → view (putMark layout p s) ≡ seen (mapped (v .answer)) (v .writes) (v .tried) (v .after)
 unfolding putMark
-mark-said p s e = rw e
+mark-said layout p s e = rw e
 
-pub mark-few : (p : Places) (s : Chip) {v : Seen Work} → v ≡ view (putMark p s) → (v .writes ≤ 2) × (v .tried ≡ 0)
+pub mark-few : (layout : Layout) (p : Places) (s : Chip) {v : Seen Work} → v ≡ view (putMark layout p s) → (v .writes ≤ 2) × (v .tried ≡ 0)
 unfolding putMark
-mark-few p s e = rw e (row-cost markBytes (p .map) s, row-tried markBytes (p .map) s)
+mark-few layout p s e = rw e (row-cost markBytes (p .map) s, row-tried markBytes (p .map) s)
 
-module _ (addresses : List ℕ) (p : Places) (s : Chip) where
+module _ (layout : Layout) (addresses : List ℕ) (p : Places) (s : Chip) where
   abbrev mapping : Run Work
-  mapping = putPointers addresses 0 p s andThen putMark p
+  mapping = putPointers addresses 0 layout p s andThen putMark layout p
 
   pub map-few : {v : Seen Work} → v ≡ view mapping → (v .writes ≤ 2 * length addresses + 2) × (v .tried ≡ 0)
-  map-few e = rw e (then-few (putPointers addresses 0 p s) (putMark p) (pointers-cost addresses 0 p s) (mark-few p (putPointers addresses 0 p s .after) refl))
+  map-few e = rw e (then-few (putPointers addresses 0 layout p s) (putMark layout p) (pointers-cost layout addresses 0 p s) (mark-few layout p (putPointers addresses 0 layout p s .after) refl))
 
   -- what is said of the row of their bytes, said of the pointers
-  pub pointers-said : {v : Seen Found} → v ≡ view (putRow (pointerRow addresses 0) (p .map + 2) s) → seen (mapped (v .answer)) (v .writes) 0 (v .after) ≡ view (putPointers addresses 0 p s)
+  pub pointers-said : {v : Seen Found} → v ≡ view (putRow (pointerRow addresses 0) (p .map + 2) s) → seen (mapped (v .answer)) (v .writes) 0 (v .after) ≡ view (putPointers addresses 0 layout p s)
   unfolding offsetOf offsetIn
   pointers-said {v} e =
       let none : v .tried ≡ 0 = ap (λ (u : Seen Found). u .tried) e ∙ row-tried (pointerRow addresses 0) (p .map + 2) s in
-      ap (λ (t : ℕ). seen (mapped (v .answer)) (v .writes) t (v .after)) (sym none) ∙ rw (pointers-row addresses 0 p s, e)
+      ap (λ (t : ℕ). seen (mapped (v .answer)) (v .writes) t (v .after)) (sym none) ∙ rw (pointers-row layout addresses 0 p s, e)
 
 -- ## The whole
 
@@ -309,16 +309,16 @@ module _ (p : Places) (s : Chip) {v : Seen Taken} (e : v ≡ view (untried (take
 
   pub opening-stopped : stopped (v .answer .work) ≡ true → view (firstOpening two p s) ≡ saidTaking
   unfolding firstOpening
-  opening-stopped h = said-stopped (taking giving taking .answer .work) (λ t. putPointers (taking .answer .addresses) 0 p t andThen putMark p) {v = saidTaking} (rw e) h
+  opening-stopped h = said-stopped (taking giving taking .answer .work) (λ t. putPointers (taking .answer .addresses) 0 two p t andThen putMark two p) {v = saidTaking} (rw e) h
 
   pub opening-mapped :
       stopped (v .answer .work) ≡ false → {addresses : List ℕ} → v .answer .addresses ≡ addresses
-      → {w : Seen Work} → w ≡ view (mapping addresses p (v .after))
+      → {w : Seen Work} → w ≡ view (mapping two addresses p (v .after))
       → view (firstOpening two p s) ≡ plus (v .writes) 0 w
   unfolding firstOpening
   opening-mapped h {addresses} whole {w} f =
-      said-done (taking giving taking .answer .work) (λ t. putPointers (taking .answer .addresses) 0 p t andThen putMark p) {v = saidTaking} (rw e) h
-      ∙ ap (λ (xs : List ℕ). plus (v .writes) (v .tried) (view (mapping xs p (v .after)))) (sym (ap (λ (u : Seen Taken). u .answer .addresses) e) ∙ whole)
+      said-done (taking giving taking .answer .work) (λ t. putPointers (taking .answer .addresses) 0 two p t andThen putMark two p) {v = saidTaking} (rw e) h
+      ∙ ap (λ (xs : List ℕ). plus (v .writes) (v .tried) (view (mapping two xs p (v .after)))) (sym (ap (λ (u : Seen Taken). u .answer .addresses) e) ∙ whole)
       ∙ ap (plus (v .writes) (v .tried)) (sym f)
       ∙ ap (λ (t : ℕ). plus (v .writes) t w) (ap (λ (u : Seen Taken). u .tried) e)
 

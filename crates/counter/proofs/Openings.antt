@@ -66,9 +66,9 @@ module _ (layout : Layout) (p : Places) where
       (a : ℕ) (rest : List ℕ) (k : ℕ) (s : Chip) (q : Run Work)
       → Ready layout p s
       → k + suc (length rest) ≤ slots layout
-      → putPointer p k a s .answer ≡ Done
-      → PointsLaws layout p rest (k + 1) (putPointer p k a s .after) q
-      → PointsLaws layout p (a ∷ rest) k s (putPointer p k a s then q)
+      → putPointer layout p k a s .answer ≡ Done
+      → PointsLaws layout p rest (k + 1) (putPointer layout p k a s .after) q
+      → PointsLaws layout p (a ∷ rest) k s (putPointer layout p k a s then q)
   points-then a rest k s q ready fits e points =
       record {
         within = within-then (within-wider (λ c o. of-map ready k (omega arith) o) (laws .within)) (points .within);
@@ -90,8 +90,8 @@ module _ (layout : Layout) (p : Places) where
       (a : ℕ) (rest : List ℕ) (k : ℕ) (s : Chip) (x : ℕ)
       → Ready layout p s
       → k + suc (length rest) ≤ slots layout
-      → putPointer p k a s .answer ≡ Stopped (MapByte x)
-      → PointsLaws layout p (a ∷ rest) k s (putPointer p k a s)
+      → putPointer layout p k a s .answer ≡ Stopped (MapByte x)
+      → PointsLaws layout p (a ∷ rest) k s (putPointer layout p k a s)
   points-stop a rest k s x ready fits e =
       let laws = pointer-laws ready k (omega arith) a in
       record {
@@ -104,29 +104,29 @@ module _ (layout : Layout) (p : Places) where
 
   pub points-laws :
       (addresses : List ℕ) (k : ℕ) (s : Chip) → Ready layout p s → k + length addresses ≤ slots layout
-      → PointsLaws layout p addresses k s (putPointers addresses k p s)
+      → PointsLaws layout p addresses k s (putPointers addresses k layout p s)
   unfolding putPointers
   points-laws [] k s ready fits = record { within = within-still Done s; tried = refl; earlier = λ j l. refl; pointed = λ d j l. absurd (omega arith); ended = put refl }
-  points-laws (a ∷ rest) k s ready fits = go (laws .either) (points-laws rest (k + 1) (putPointer p k a s .after) (ready-kept ready (within-kept (laws .within))) (omega arith))
+  points-laws (a ∷ rest) k s ready fits = go (laws .either) (points-laws rest (k + 1) (putPointer layout p k a s .after) (ready-kept ready (within-kept (laws .within))) (omega arith))
     where
       laws : PointerLaws layout p k a s
       laws = pointer-laws ready k (omega arith) a
 
       go :
-          (putPointer p k a s .answer ≡ Done) ⊎ ((x : ℕ) × (putPointer p k a s .answer ≡ Stopped (MapByte x)))
-          → PointsLaws layout p rest (k + 1) (putPointer p k a s .after) (putPointers rest (k + 1) p (putPointer p k a s .after))
-          → PointsLaws layout p (a ∷ rest) k s (putPointer p k a s andThen putPointers rest (k + 1) p)
-      go (inl e) points = rw (done-then (putPointer p k a s) _ e) (points-then a rest k s _ ready fits e points)
-      go (inr (x, e)) points = rw (stopped-then (putPointer p k a s) _ _ e) (points-stop a rest k s x ready fits e)
+          (putPointer layout p k a s .answer ≡ Done) ⊎ ((x : ℕ) × (putPointer layout p k a s .answer ≡ Stopped (MapByte x)))
+          → PointsLaws layout p rest (k + 1) (putPointer layout p k a s .after) (putPointers rest (k + 1) layout p (putPointer layout p k a s .after))
+          → PointsLaws layout p (a ∷ rest) k s (putPointer layout p k a s andThen putPointers rest (k + 1) layout p)
+      go (inl e) points = rw (done-then (putPointer layout p k a s) _ e) (points-then a rest k s _ ready fits e points)
+      go (inr (x, e)) points = rw (stopped-then (putPointer layout p k a s) _ _ e) (points-stop a rest k s x ready fits e)
 
 -- ## The mark
 
 pub record MarkLaws (layout : Layout) (p : Places) (s : Chip) : Type 0 where
-  pub within : Within (InMap layout p) s (putMark p s)
-  pub tried : putMark p s .tried ≡ 0
-  pub pointed : (j : ℕ) → j < slots layout → pointers layout p (putMark p s .after) j ≡ pointers layout p s j
-  pub marks : putMark p s .answer ≡ Done → marked (mapIn layout p (putMark p s .after .cells)) ≡ true
-  pub ended : MapEnded (putMark p s .answer)
+  pub within : Within (InMap layout p) s (putMark layout p s)
+  pub tried : putMark layout p s .tried ≡ 0
+  pub pointed : (j : ℕ) → j < slots layout → pointers layout p (putMark layout p s .after) j ≡ pointers layout p s j
+  pub marks : putMark layout p s .answer ≡ Done → marked (mapIn layout p (putMark layout p s .after .cells)) ≡ true
+  pub ended : MapEnded (putMark layout p s .answer)
 
 module _ {layout : Layout} {p : Places} {s : Chip} (ready : Ready layout p s) where
   row : RowLaws markBytes (p .map) s
@@ -171,12 +171,12 @@ pub record MapLaws (layout : Layout) (p : Places) (addresses : List ℕ) (s : Ch
 
 module _ {layout : Layout} {p : Places} {s : Chip} (ready : Ready layout p s) (addresses : List ℕ) (many : length addresses ≡ slots layout) where
   abbrev pointing : Run Work
-  pointing = putPointers addresses 0 p s
+  pointing = putPointers addresses 0 layout p s
 
   points : PointsLaws layout p addresses 0 s pointing
   points = points-laws layout p addresses 0 s ready (omega arith)
 
-  maps-done : pointing .answer ≡ Done → MapLaws layout p addresses s (pointing then putMark p (pointing .after))
+  maps-done : pointing .answer ≡ Done → MapLaws layout p addresses s (pointing then putMark layout p (pointing .after))
   maps-done e =
       record {
         within = within-then (points .within) (laws .within);
@@ -199,12 +199,12 @@ module _ {layout : Layout} {p : Places} {s : Chip} (ready : Ready layout p s) (a
         ended = points .ended;
       }
 
-  pub map-laws : MapLaws layout p addresses s (putPointers addresses 0 p s andThen putMark p)
+  pub map-laws : MapLaws layout p addresses s (putPointers addresses 0 layout p s andThen putMark layout p)
   map-laws = go (points .ended)
     where
-      go : MapEnded (pointing .answer) → MapLaws layout p addresses s (pointing andThen putMark p)
-      go (put e) = rw (done-then pointing (putMark p) e) (maps-done e)
-      go (failed x e) = rw (stopped-then pointing (putMark p) _ e) (maps-stop x e)
+      go : MapEnded (pointing .answer) → MapLaws layout p addresses s (pointing andThen putMark layout p)
+      go (put e) = rw (done-then pointing (putMark layout p) e) (maps-done e)
+      go (failed x e) = rw (stopped-then pointing (putMark layout p) _ e) (maps-stop x e)
 
 -- ## A first opening
 
@@ -235,7 +235,7 @@ module _ {layout : Layout} {p : Places} {s : Chip} (ready : Ready layout p s) wh
   taking-within = let w = takes .within in within-wider (λ c i. inr (whole-inside p c i)) (record { logged = w .logged; places = w .places })
 
   abbrev mapping : Chip → Run Work
-  mapping t = putPointers (taking .answer .addresses) 0 p t andThen putMark p
+  mapping t = putPointers (taking .answer .addresses) 0 layout p t andThen putMark layout p
 
   module _ (t : AllTaken (slots layout) 0 (wholeArea p) (takeFrom (slots layout) 0 (wholeArea p) s)) where
     maps : MapLaws layout p (taking .answer .addresses) (taking .after) (mapping (taking .after))

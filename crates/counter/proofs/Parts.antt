@@ -30,7 +30,7 @@ module _ (p : Places) (cells : List ℕ) (copy : ℕ) where
   pub record Parted : Type 0 where
     pub first : 1 ≤ copy
     pub last : copy ≤ 2
-    pub inside : p .map + partAt (copy - 1) + 11 ≤ length cells
+    pub inside : p .map + partAt two (copy - 1) + 11 ≤ length cells
 
   pub parted : {count : ℕ} {lag : ℤ} → partVerdict two p cells copy ≡ Good count lag → Parted
   unfolding partVerdict
@@ -45,7 +45,7 @@ module _ (p : Places) (cells : List ℕ) (copy : ℕ) where
       let placed = good-placed two (length cells) p (good .0) in
       record { first = from; last = to; inside = omega arith }
 
-  pub part-good : {count : ℕ} {lag : ℤ} → partVerdict two p cells copy ≡ Good count lag → mapPartOf two p cells copy ≡ part 0 (p .map + partAt (copy - 1)) 11
+  pub part-good : {count : ℕ} {lag : ℤ} → partVerdict two p cells copy ≡ Good count lag → mapPartOf two p cells copy ≡ part 0 (p .map + partAt two (copy - 1)) 11
   unfolding mapPartOf
   part-good e = rw e
 

@@ -19,6 +19,7 @@ use Rattle.cells.specs.Row.{putRow}
 use Rattle.cells.proofs.Rows.{row-none, row-behind, row-alone}
 use Rattle.counter.specs.declared.places.Places.{Places}
 use Rattle.counter.specs.declared.verdict.Work.{Work}
+use Rattle.counter.specs.Layout.{Layout}
 use Rattle.counter.specs.Slots.{kindOf}
 use Rattle.counter.specs.Map.{markBytes, offsetIn, offsetOf, pointerBytes}
 use Rattle.counter.specs.Verdict.{_andThen_}
@@ -41,18 +42,18 @@ map-behind bs cs a s = go (putRow bs a s .answer) refl
     go Nowhere h = unfold mapped in rw (row-behind cs bs a s h, h)
     go (At x) h = unfold mapped in rw (row-alone cs x bs a s h, h)
 
-pub pointers-row : (addresses : List ℕ) (k : ℕ) (p : Places) (s : Chip) → putPointers addresses k p s ≡ mapRow (pointerRow addresses k) (p .map + offsetOf k) s
+pub pointers-row : (layout : Layout) (addresses : List ℕ) (k : ℕ) (p : Places) (s : Chip) → putPointers addresses k layout p s ≡ mapRow (pointerRow addresses k) (p .map + offsetOf k) s
 unfolding putPointers pointerRow putPointer mapped
-pointers-row [] k p s = rw row-none
-pointers-row (a ∷ rest) k p s =
+pointers-row layout [] k p s = rw row-none
+pointers-row layout (a ∷ rest) k p s =
     let bytes = pointerBytes (kindOf k) a in
     let at = p .map + offsetOf k in
     let behind : p .map + offsetOf (k + 1) ≡ at + length bytes = rw (bytes-length (kindOf k) a) (omega (arith, offset-next k)) in
-    rw (pointers-row rest (k + 1) p (putRow bytes at s .after), behind) (map-behind bytes (pointerRow rest (k + 1)) at s)
+    rw (pointers-row layout rest (k + 1) p (putRow bytes at s .after), behind) (map-behind bytes (pointerRow rest (k + 1)) at s)
 
-pub mark-row : (p : Places) (s : Chip) → putMark p s ≡ mapRow markBytes (p .map) s
+pub mark-row : (layout : Layout) (p : Places) (s : Chip) → putMark layout p s ≡ mapRow markBytes (p .map) s
 unfolding putMark
-mark-row p s = refl
+mark-row layout p s = refl
 
 pub row-length : (addresses : List ℕ) (k : ℕ) → offsetOf k + length (pointerRow addresses k) ≡ offsetOf (k + length addresses)
 unfolding pointerRow

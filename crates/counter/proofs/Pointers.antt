@@ -47,12 +47,12 @@ mapped-either (At a) = inr (a, refl)
 mapped-either Nowhere = inl refl
 
 pub record PointerLaws (layout : Layout) (p : Places) (k a : ℕ) (s : Chip) : Type 0 where
-  pub within : Within (OfPointer p k) s (putPointer p k a s)
-  pub tried : putPointer p k a s .tried ≡ 0
-  pub held : putPointer p k a s .answer ≡ Done → pointers layout p (putPointer p k a s .after) k ≡ a
-  pub others : (j : ℕ) → j < slots layout → (j ≡ k → ⊥) → pointers layout p (putPointer p k a s .after) j ≡ pointers layout p s j
-  pub mark : marked (mapIn layout p (putPointer p k a s .after .cells)) ≡ marked (mapIn layout p (s .cells))
-  pub either : (putPointer p k a s .answer ≡ Done) ⊎ ((x : ℕ) × (putPointer p k a s .answer ≡ Stopped (MapByte x)))
+  pub within : Within (OfPointer p k) s (putPointer layout p k a s)
+  pub tried : putPointer layout p k a s .tried ≡ 0
+  pub held : putPointer layout p k a s .answer ≡ Done → pointers layout p (putPointer layout p k a s .after) k ≡ a
+  pub others : (j : ℕ) → j < slots layout → (j ≡ k → ⊥) → pointers layout p (putPointer layout p k a s .after) j ≡ pointers layout p s j
+  pub mark : marked (mapIn layout p (putPointer layout p k a s .after .cells)) ≡ marked (mapIn layout p (s .cells))
+  pub either : (putPointer layout p k a s .answer ≡ Done) ⊎ ((x : ℕ) × (putPointer layout p k a s .answer ≡ Stopped (MapByte x)))
 
 module _ {layout : Layout} {p : Places} {s : Chip} (ready : Ready layout p s) (k : ℕ) (l : k < slots layout) where
   pub of-map : {c : ℕ} → OfPointer p k c → InMap layout p c
@@ -77,13 +77,13 @@ module _ {layout : Layout} {p : Places} {s : Chip} (ready : Ready layout p s) (k
     row : RowLaws (pointerBytes (kindOf k) a) (p .map + offsetOf k) s
     row = row-laws (pointerBytes (kindOf k) a) (p .map + offsetOf k) s (ready .paired)
 
-    put-in : Within (OfPointer p k) s (putPointer p k a s)
+    put-in : Within (OfPointer p k) s (putPointer layout p k a s)
     unfolding putPointer
     put-in =
         let e = bytes-length (kindOf k) a in
         within-giving _ (within-wider (λ c i. record { from = i .0; to = let h = i .1 in omega arith }) (row .within))
 
-    put-held : putPointer p k a s .answer ≡ Done → pointers layout p (putPointer p k a s .after) k ≡ a
+    put-held : putPointer layout p k a s .answer ≡ Done → pointers layout p (putPointer layout p k a s .after) k ≡ a
     unfolding putPointer
     put-held e =
         let h = offset-inside layout k l in
@@ -95,15 +95,15 @@ module _ {layout : Layout} {p : Places} {s : Chip} (ready : Ready layout p s) (k
         ∙ row .held (mapped-done _ e) i (omega arith))
 
     -- the pointers of other slots stay, and the bytes in front of all pointers
-    put-others : (j : ℕ) → j < slots layout → (j ≡ k → ⊥) → pointers layout p (putPointer p k a s .after) j ≡ pointers layout p s j
+    put-others : (j : ℕ) → j < slots layout → (j ≡ k → ⊥) → pointers layout p (putPointer layout p k a s .after) j ≡ pointers layout p s j
     put-others j m d =
         let h = offset-inside layout j m in
         pointer-same _ _ j (λ i from to. byte-kept ready (within-kept put-in) i (omega arith) (apart j i d from to))
 
-    put-mark : marked (mapIn layout p (putPointer p k a s .after .cells)) ≡ marked (mapIn layout p (s .cells))
+    put-mark : marked (mapIn layout p (putPointer layout p k a s .after .cells)) ≡ marked (mapIn layout p (s .cells))
     put-mark = mark-same _ _ (byte 0 (omega arith)) (byte 1 (omega arith))
       where
-        byte : (j : ℕ) → j < 2 → byteAt (mapIn layout p (putPointer p k a s .after .cells)) j ≡ byteAt (mapIn layout p (s .cells)) j
+        byte : (j : ℕ) → j < 2 → byteAt (mapIn layout p (putPointer layout p k a s .after .cells)) j ≡ byteAt (mapIn layout p (s .cells)) j
         byte j m = let h = offset-first k in byte-kept ready (within-kept put-in) j (omega arith) (λ o. let h′ = o .from in omega arith)
 
     pub pointer-laws : PointerLaws layout p k a s
@@ -117,8 +117,8 @@ module _ {layout : Layout} {p : Places} {s : Chip} (ready : Ready layout p s) (k
           either = answers;
         }
       where
-        none : putPointer p k a s .tried ≡ 0
+        none : putPointer layout p k a s .tried ≡ 0
         none = unfold putPointer in row .tried
 
-        answers : (putPointer p k a s .answer ≡ Done) ⊎ ((x : ℕ) × (putPointer p k a s .answer ≡ Stopped (MapByte x)))
+        answers : (putPointer layout p k a s .answer ≡ Done) ⊎ ((x : ℕ) × (putPointer layout p k a s .answer ≡ Stopped (MapByte x)))
         answers = unfold putPointer in mapped-either (putRow (pointerBytes (kindOf k) a) (p .map + offsetOf k) s .answer)

@@ -52,16 +52,16 @@ unfolding bytesOf
 bytes-few High a = let e = bytes-length High a in omega arith
 bytes-few Low a = let e = bytes-length Low a in omega arith
 
-pointer-cost : (p : Places) (k a : ℕ) (s : Chip) → Costs 2 0 (putPointer p k a s)
+pointer-cost : (layout : Layout) (p : Places) (k a : ℕ) (s : Chip) → Costs 2 0 (putPointer layout p k a s)
 unfolding putPointer
-pointer-cost p k a s =
+pointer-cost layout p k a s =
     let bytes = bytes-few (kindOf k) a in
     let few = row-cost (pointerBytes (kindOf k) a) (p .map + offsetOf k) s in
     let none = row-tried (pointerBytes (kindOf k) a) (p .map + offsetOf k) s in
     record { asks = omega arith; tries = omega arith }
 
-pub pointer-few : (p : Places) (k a : ℕ) (s : Chip) {v : Seen Work} → v ≡ view (putPointer p k a s) → (v .writes ≤ 2) × (v .tried ≡ 0)
-pointer-few p k a s e = let cost = pointer-cost p k a s in rw e (cost .asks, omega (arith, cost .tries))
+pub pointer-few : (layout : Layout) (p : Places) (k a : ℕ) (s : Chip) {v : Seen Work} → v ≡ view (putPointer layout p k a s) → (v .writes ≤ 2) × (v .tried ≡ 0)
+pointer-few layout p k a s e = let cost = pointer-cost layout p k a s in rw e (cost .asks, omega (arith, cost .tries))
 
 module _ {layout : Layout} {p : Places} {s : Chip} (ready : Ready layout p s) (k b : ℕ) where
   tries-cost : Costs 4096 4096 (tries layout p k b s)
@@ -78,7 +78,7 @@ module _ {layout : Layout} {p : Places} {s : Chip} (ready : Ready layout p s) (k
       go : (f : Found) → tries layout p k b s .answer ≡ f → Costs 4098 4096 (moveSlot layout p k b s)
       go Nowhere h = rw (move-missing layout p k b s h) (record { asks = rw length-append (omega (arith, tries-cost)); tries = omega (arith, tries-cost) })
       go (At a) h =
-          let pointer = pointer-cost p k a (tries layout p k b s .after) in
+          let pointer = pointer-cost layout p k a (tries layout p k b s .after) in
           rw (move-landing layout p k b s a h) (record { asks = rw length-append (omega (arith, tries-cost)); tries = omega (arith, tries-cost) })
 
   pub move-few : {v : Seen Work} → v ≡ view (moveSlot layout p k b s) → (v .writes ≤ 4098) × (v .tried ≤ 4096)

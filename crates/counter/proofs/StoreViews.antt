@@ -49,12 +49,12 @@ use Rattle.counter.proofs.Behind.{stopped-not, said-done, said-stopped}
 
 -- ## An address put as a slot's pointer
 
-module _ (p : Places) (k a at : ℕ) (s : Chip) {v : Seen Found} (here : at ≡ offsetOf k) where
-  pub low-pointer : k % 8 < 3 → v ≡ view (putRow (a % 256 ∷ a / 256 ∷ []) (p .map + at) s) → view (putPointer p k a s) ≡ seen (mapped (v .answer)) (v .writes) (v .tried) (v .after)
+module _ (layout : Layout) (p : Places) (k a at : ℕ) (s : Chip) {v : Seen Found} (here : at ≡ offsetOf k) where
+  pub low-pointer : k % 8 < 3 → v ≡ view (putRow (a % 256 ∷ a / 256 ∷ []) (p .map + at) s) → view (putPointer layout p k a s) ≡ seen (mapped (v .answer)) (v .writes) (v .tried) (v .after)
   unfolding putPointer pointerBytes
   low-pointer h e = rw (kind-low k h, ← here, e)
 
-  pub high-pointer : 3 ≤ k % 8 → a ≤ 255 → v ≡ view (putRow (a % 256 ∷ []) (p .map + at) s) → view (putPointer p k a s) ≡ seen (mapped (v .answer)) (v .writes) (v .tried) (v .after)
+  pub high-pointer : 3 ≤ k % 8 → a ≤ 255 → v ≡ view (putRow (a % 256 ∷ []) (p .map + at) s) → view (putPointer layout p k a s) ≡ seen (mapped (v .answer)) (v .writes) (v .tried) (v .after)
   unfolding putPointer pointerBytes
   high-pointer h small e = let same : a % 256 ≡ a = omega arith in rw (kind-high k h, ← here, e, same)
 
@@ -114,10 +114,10 @@ module _ (layout : Layout) (p : Places) (k b : ℕ) (s : Chip) {g : Gap} (here :
       ∙ said-then (tries layout p k b s) said (still (Stopped (NoSpare k)))
       ∙ simp add-zero
 
-  pub move-at : {a : ℕ} → v .answer ≡ At a → {u : Seen Work} → u ≡ view (putPointer p k a (v .after)) → view (moveSlot layout p k b s) ≡ plus (v .writes) (v .tried) u
+  pub move-at : {a : ℕ} → v .answer ≡ At a → {u : Seen Work} → u ≡ view (putPointer layout p k a (v .after)) → view (moveSlot layout p k b s) ≡ plus (v .writes) (v .tried) u
   move-at {a} h f =
       ap view (move-landing layout p k b s a (said-answer (tries layout p k b s) said h))
-      ∙ said-then (tries layout p k b s) said (putPointer p k a)
+      ∙ said-then (tries layout p k b s) said (putPointer layout p k a)
       ∙ ap (plus _ _) (sym f)
 
 -- ## A byte put at its slot's cell

@@ -63,7 +63,7 @@ module _ (layout : Layout) (p : Places) (s : Chip) where
 
   -- the map put behind it
   abbrev mapping : Chip → Run Work
-  mapping t = putPointers (taking .answer .addresses) 0 p t andThen putMark p
+  mapping t = putPointers (taking .answer .addresses) 0 layout p t andThen putMark layout p
 
   -- the taking as a piece of the opening, which counts no spare as tried
   abbrev took : Run Work

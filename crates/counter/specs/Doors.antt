@@ -85,12 +85,12 @@ partVerdict layout p cells copy =
     (Good 0 (pos 0))))
 
 -- the eleven cells of a copy, or, on a refusal, an empty part
-abbrev pub partOn : Verdict → Places → ℕ → Part
-partOn (Good count lag) p copy = part 0 (p .map + partAt (copy - 1)) copyCells
-partOn (Refused why) p copy = part (refusalOf why 0 0 .code) 0 0
+abbrev pub partOn : Verdict → Layout → Places → ℕ → Part
+partOn (Good count lag) layout p copy = part 0 (p .map + partAt layout (copy - 1)) (copyCells layout)
+partOn (Refused why) layout p copy = part (refusalOf why 0 0 .code) 0 0
 
 unfoldable pub mapPartOf : Layout → Places → List ℕ → ℕ → Part
-mapPartOf layout p cells copy = partOn (partVerdict layout p cells copy) p copy
+mapPartOf layout p cells copy = partOn (partVerdict layout p cells copy) layout p copy
 
 -- The promises, at two copies.
 

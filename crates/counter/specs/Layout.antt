@@ -14,10 +14,14 @@ two = record { copies = 2 }
 abbrev pub slots : Layout → ℕ
 slots layout = 8 * layout .copies
 
--- the map cells of a copy
-abbrev pub copyCells : ℕ
-copyCells = 11
+-- the map bytes of a copy
+abbrev pub copyBytes : ℕ
+copyBytes = 11
+
+-- the map cells of a copy: each byte is kept in one cell
+abbrev pub copyCells : Layout → ℕ
+copyCells layout = copyBytes
 
 -- the cells of the map: the mark's two, and those of each copy
 abbrev pub mapCells : Layout → ℕ
-mapCells layout = 2 + copyCells * layout .copies
+mapCells layout = 2 + copyCells layout * layout .copies

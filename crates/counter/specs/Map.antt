@@ -8,7 +8,7 @@ use lib.Dec.{leb, ltb, eqb}
 use Rattle.counter.specs.declared.map.Kind.{Kind}
 use Rattle.counter.specs.declared.map.Kind.the-variants.{High, Low}
 use Rattle.counter.specs.declared.places.Places.{Places}
-use Rattle.counter.specs.Layout.{Layout, slots, copyCells, mapCells}
+use Rattle.counter.specs.Layout.{Layout, slots, copyBytes, copyCells, mapCells}
 use Rattle.counter.specs.Slots.{kindOf, every}
 
 -- the part of an image's cells that is the map
@@ -27,16 +27,16 @@ unfoldable pub marked : List ℕ → Bool
 marked map = eqb (byteAt map 0) 0xA5 && eqb (byteAt map 1) 0x5A
 
 -- where the part of a copy, counted from 0, starts in the map
-abbrev pub partAt : ℕ → ℕ
-partAt copy = 2 + copyCells * copy
+abbrev pub partAt : Layout → ℕ → ℕ
+partAt layout copy = 2 + copyCells layout * copy
 
 -- where in its copy's part a nibble's pointer starts: two bytes for each Low nibble, one for each High one
 unfoldable pub offsetIn : ℕ → ℕ
 offsetIn n = cond (ltb n 3) (2 * n) (n + 3)
 
--- where a slot's pointer starts in the map
+-- where a slot's pointer starts, in bytes of the map
 unfoldable pub offsetOf : ℕ → ℕ
-offsetOf k = partAt (k / 8) + offsetIn (k % 8)
+offsetOf k = 2 + copyBytes * (k / 8) + offsetIn (k % 8)
 
 -- the pointer of a kind that starts at a byte of the map: two bytes, low byte first, or one
 unfoldable pub pointerAt : Kind → List ℕ → ℕ → ℕ

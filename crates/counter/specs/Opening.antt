@@ -41,13 +41,13 @@ takeFrom (suc n) k g s =
     r then onTaken (r .answer) k (λ a. takeFrom n (k + 1) (narrow (kindOf k) a g) (r .after)) (r .after)
 
 -- addresses put as the pointers of the slots from k on
-unfoldable pub putPointers : List ℕ → ℕ → Places → Chip → Run Work
-putPointers [] k p s = still Done s
-putPointers (a ∷ rest) k p s = putPointer p k a s andThen putPointers rest (k + 1) p
+unfoldable pub putPointers : List ℕ → ℕ → Layout → Places → Chip → Run Work
+putPointers [] k layout p s = still Done s
+putPointers (a ∷ rest) k layout p s = putPointer layout p k a s andThen putPointers rest (k + 1) layout p
 
 -- the mark, A5 and then 5A
-unfoldable pub putMark : Places → Chip → Run Work
-putMark p s = let r = putRow markBytes (p .map) s in r giving mapped (r .answer)
+unfoldable pub putMark : Layout → Places → Chip → Run Work
+putMark layout p s = let r = putRow markBytes (p .map) s in r giving mapped (r .answer)
 
 -- the same work, its addresses counting as none tried
 abbrev pub untried : {A : Type 0} → Run A → Run A
@@ -57,4 +57,4 @@ untried r = run (r .answer) (r .log) 0 (r .after)
 unfoldable pub firstOpening : Layout → Places → Chip → Run Work
 firstOpening layout p s =
     let r = untried (takeFrom (slots layout) 0 (wholeArea p) s) in
-    r giving r .answer .work andThen λ t. putPointers (r .answer .addresses) 0 p t andThen putMark p
+    r giving r .answer .work andThen λ t. putPointers (r .answer .addresses) 0 layout p t andThen putMark layout p

@@ -31,23 +31,23 @@ mapped (At a) = Stopped (MapByte a)
 mapped Nowhere = Done
 
 -- address a put as slot k's pointer, low byte first
-unfoldable pub putPointer : Places → ℕ → ℕ → Chip → Run Work
-putPointer p k a s = let r = putRow (pointerBytes (kindOf k) a) (p .map + offsetOf k) s in r giving mapped (r .answer)
+unfoldable pub putPointer : Layout → Places → ℕ → ℕ → Chip → Run Work
+putPointer layout p k a s = let r = putRow (pointerBytes (kindOf k) a) (p .map + offsetOf k) s in r giving mapped (r .answer)
 
 -- the spares of a kind that a gap leaves, tried one after another by the same put until one holds
 unfoldable pub trySpares : ℕ → Gap → ℕ → Chip → Run Found
 trySpares k g b s = walk (sparesOf (kindOf k) g) (wayOf (kindOf k)) (nextOf (kindOf k) g) b s
 
 -- slot k's new pointer, if a spare held
-unfoldable pub moveTo : Places → ℕ → Found → Chip → Run Work
-moveTo p k (At a) s = putPointer p k a s
-moveTo p k Nowhere s = still (Stopped (NoSpare k)) s
+unfoldable pub moveTo : Layout → Places → ℕ → Found → Chip → Run Work
+moveTo layout p k (At a) s = putPointer layout p k a s
+moveTo layout p k Nowhere s = still (Stopped (NoSpare k)) s
 
 -- byte b moved to a spare of slot k's kind
 unfoldable pub moveSlot : Layout → Places → ℕ → ℕ → Chip → Run Work
 moveSlot layout p k b s =
     let r = trySpares k (gapOf layout p (pointerOf (mapIn layout p (s .cells)))) b s in
-    r then moveTo p k (r .answer) (r .after)
+    r then moveTo layout p k (r .answer) (r .after)
 
 -- byte b put at slot k's cell, and moved if the put fails
 unfoldable pub storeSlot : Layout → Places → ℕ → ℕ → Chip → Run Work

@@ -99,7 +99,7 @@ fn pointer_row(addresses: &[usize; 16]) -> [u8; 22]
 // The mark, A5 and then 5A.
 fn put_mark(image: &mut [u8], lives: &mut [u32], p: Places) -> Stored
     requires { ⌜ fitted two p (chip (now image) (now lives)) ≡ true ⌝ }
-    ensures { λ r. ⌜ seen (r .work) (r .writes) (r .tried) (chip (now (image .exit)) (now (lives .exit))) ≡ view (putMark p (chip (now (image .entry)) (now (lives .entry)))) ⌝ }
+    ensures { λ r. ⌜ seen (r .work) (r .writes) (r .tried) (chip (now (image .exit)) (now (lives .exit))) ≡ view (putMark two p (chip (now (image .entry)) (now (lives .entry)))) ⌝ }
 {
     let mark = [Map::MARK_FIRST, Map::MARK_SECOND];
     mapped(put_row(image, lives, p.map, &mark))
@@ -108,7 +108,7 @@ fn put_mark(image: &mut [u8], lives: &mut [u32], p: Places) -> Stored
 // The bytes of all pointers, those of one copy and then those of the other: rows short enough for the compiler to
 // lay out byte by byte.
 fn put_copies(image: &mut [u8], lives: &mut [u32], at: usize, bytes: &[u8]) -> RowPut
-    requires { ⌜ (at + length (now bytes) ≤ length (now image)) × (length (now lives) ≡ length (now image)) × (copyCells ≤ length (now bytes)) ⌝ }
+    requires { ⌜ (at + length (now bytes) ≤ length (now image)) × (length (now lives) ≡ length (now image)) × (copyCells two ≤ length (now bytes)) ⌝ }
     ensures { λ r. ⌜ seen (r .failed) (r .writes) 0 (chip (now (image .exit)) (now (lives .exit))) ≡ view (putRow (now (bytes .entry)) at (chip (now (image .entry)) (now (lives .entry)))) ⌝ }
 {
     let first = put_row(image, lives, at, &bytes[0..Map::COPY_SIZE]);
@@ -132,7 +132,7 @@ fn put_copies(image: &mut [u8], lives: &mut [u32], at: usize, bytes: &[u8]) -> R
 // The map: addresses put as the pointers of all slots, as one row of bytes, and then the mark.
 fn put_map(image: &mut [u8], lives: &mut [u32], p: Places, addresses: &[usize; 16]) -> Stored
     requires { ⌜ (fitted two p (chip (now image) (now lives)) ≡ true) × (length (now addresses) ≡ slots two) × ((k : ℕ) → k < slots two → (getD (now addresses) k 0 < 65536) × (reachable (kindOf k) (getD (now addresses) k 0) ≡ true)) ⌝ }
-    ensures { λ r. ⌜ seen (r .work) (r .writes) (r .tried) (chip (now (image .exit)) (now (lives .exit))) ≡ view (putPointers (now (addresses .entry)) 0 p (chip (now (image .entry)) (now (lives .entry))) andThen putMark p) ⌝ }
+    ensures { λ r. ⌜ seen (r .work) (r .writes) (r .tried) (chip (now (image .exit)) (now (lives .exit))) ≡ view (putPointers (now (addresses .entry)) 0 two p (chip (now (image .entry)) (now (lives .entry))) andThen putMark two p) ⌝ }
 {
     let bytes = pointer_row(addresses);
     let pointers = mapped(put_copies(image, lives, p.map + Map::FIRST_COPY, &bytes));

@@ -90,7 +90,7 @@ pub(crate) fn mapped(row: RowPut) -> Stored
 // An address put as a slot's pointer, low byte first.
 fn put_pointer(image: &mut [u8], lives: &mut [u32], p: Places, slot: usize, a: usize) -> Stored
     requires { ⌜ (fitted two p (chip (now image) (now lives)) ≡ true) × (slot < slots two) × (a < 65536) × (reachable (kindOf slot) a ≡ true) ⌝ }
-    ensures { λ r. ⌜ seen (r .work) (r .writes) (r .tried) (chip (now (image .exit)) (now (lives .exit))) ≡ view (putPointer p slot a (chip (now (image .entry)) (now (lives .entry)))) ⌝ }
+    ensures { λ r. ⌜ seen (r .work) (r .writes) (r .tried) (chip (now (image .exit)) (now (lives .exit))) ≡ view (putPointer two p slot a (chip (now (image .entry)) (now (lives .entry)))) ⌝ }
 {
     let at = p.map + offset_of(slot);
     let low = (a % 256) as u8;

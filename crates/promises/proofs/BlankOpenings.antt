@@ -86,7 +86,7 @@ module _ {layout : Layout} {p : Places} {s : Chip} (fresh : BlankAlive layout p 
   ready-taken = ready-kept (fresh .ready) (within-kept (takes .within))
 
   abbrev mapping : Run Work
-  mapping = putPointers (taking .answer .addresses) 0 p (taking .after) andThen putMark p
+  mapping = putPointers (taking .answer .addresses) 0 layout p (taking .after) andThen putMark layout p
 
   -- the cells of the map are none of the area
   mapping-calm : Calmly (InMap layout p) mapping

@@ -53,17 +53,17 @@ row-calm bytes a s paired alive =
 
 pub calm-points :
     {layout : Layout} {p : Places} (addresses : List ℕ) (k : ℕ) (s : Chip) → Ready layout p s → k + length addresses ≤ slots layout
-    → LiveFrom (offsetOf k) layout p s → Calmly (Behind (offsetOf k) p) (putPointers addresses k p s)
+    → LiveFrom (offsetOf k) layout p s → Calmly (Behind (offsetOf k) p) (putPointers addresses k layout p s)
 calm-points {layout} {p} addresses k s ready fits live =
     let size = row-length addresses k in
     let most = offset-most layout (k + length addresses) fits in
     let calm = row-calm (pointerRow addresses k) (p .map + offsetOf k) s (ready .paired) (λ j l. live _ (omega arith) (omega arith)) in
-    rw (pointers-row addresses k p s) (record { done = calm .done; places = every-wider (λ c i. i .0) (calm .places); once = calm .once })
+    rw (pointers-row layout addresses k p s) (record { done = calm .done; places = every-wider (λ c i. i .0) (calm .places); once = calm .once })
 
 module _ {layout : Layout} {p : Places} {s : Chip} (ready : Ready layout p s) (addresses : List ℕ) (many : length addresses ≡ slots layout)
     (live : LiveFrom 0 layout p s) where
   abbrev pointing : Run Work
-  pointing = putPointers addresses 0 p s
+  pointing = putPointers addresses 0 layout p s
 
   points-calm : Calmly (Behind (offsetOf 0) p) pointing
   points-calm = calm-points addresses 0 s ready (omega arith) (λ c from to. live c (omega arith) to)
@@ -80,12 +80,12 @@ module _ {layout : Layout} {p : Places} {s : Chip} (ready : Ready layout p s) (a
       let e = within-life (points .within) (p .map + j) in
       omega arith
 
-  pub calm-maps : Calmly (InMap layout p) (putPointers addresses 0 p s andThen putMark p)
+  pub calm-maps : Calmly (InMap layout p) (putPointers addresses 0 layout p s andThen putMark layout p)
   calm-maps =
       let mark = row-calm markBytes (p .map) (pointing .after) (ready-kept ready (within-kept (points .within)) .paired) mark-live in
       let first = offset-first 0 in
       let within = map-laws ready addresses many .within in
-      let then-is = done-then pointing (putMark p) (points-calm .done) ∙ ap (λ (r : Run Work). pointing then r) (mark-row p (pointing .after)) in
+      let then-is = done-then pointing (putMark layout p) (points-calm .done) ∙ ap (λ (r : Run Work). pointing then r) (mark-row layout p (pointing .after)) in
       record {
         done = rw then-is (mark .done);
         places = within .places;

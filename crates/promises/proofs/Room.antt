@@ -107,7 +107,7 @@ module _ {layout : Layout} {p : Places} {s : Chip} (ready : Ready layout p s) (k
 
   landed :
       (m : Landing k (gapAt layout p s) b s)
-      → moveSlot layout p k b s .answer ≡ putPointer p k (m .place) (trySpares k (gapAt layout p s) b s .after) .answer
+      → moveSlot layout p k b s .answer ≡ putPointer layout p k (m .place) (trySpares k (gapAt layout p s) b s .after) .answer
   landed m = ap (λ (r : Run Work). r .answer) (move-landing layout p k b s (m .place) (m .here))
 
   -- what a move comes to that ends so

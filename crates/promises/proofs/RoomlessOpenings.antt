@@ -187,7 +187,7 @@ module _ {layout : Layout} {p : Places} {s : Chip} (ready : Ready layout p s) wh
   taking = takeFrom (slots layout) 0 (wholeArea p) s
 
   abbrev mapping : Chip → Run Work
-  mapping t = putPointers (taking .answer .addresses) 0 p t andThen putMark p
+  mapping t = putPointers (taking .answer .addresses) 0 layout p t andThen putMark layout p
 
   takes : TakeLaws (slots layout) 0 (wholeArea p) s taking
   takes = take-laws (slots layout) 0 (wholeArea p) s (ready .paired)

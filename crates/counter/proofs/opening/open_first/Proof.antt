@@ -3,6 +3,7 @@ use mathlib.Core.Path.{_≡_, refl, sym, _∙_}
 use borrow.Author.Needs.{needs}
 use native.Mathlib.Omega.{arith}
 use lib.ListN.{length, take, length-map}
+use Rattle.counter.specs.Layout.{two}
 use Rattle.counter.proofs.Fitted.{fitted-ready, ready-fitted}
 use Rattle.counter.proofs.OpeningViews.{ready-same, served-some, served-all, taken-whole, taken-reach, taking-few, map-few, opening-stopped, opening-mapped}
 use Rattle.counter.proofs.opening.open_first.Statement.{statement}
@@ -43,7 +44,7 @@ behind-requires c κs =
     let served = map .before .before .before .before in
     let took = took (served .before) in
     let few = taking-few _ _ (took .take-addresses .ensures) (fitted-ready (start took .pre)) in
-    let rest = map-few _ _ _ (map .put-map .ensures) in
+    let rest = map-few two _ _ _ (map .put-map .ensures) in
     let size = sixteen took in
     (omega arith, omega arith, omega arith, omega arith)
 

@@ -4,6 +4,7 @@ use borrow.Author.Needs.{needs}
 use native.Mathlib.Omega.{arith}
 use Rattle.cells.specs.Chip.{chip}
 use Rattle.cells.specs.Run.{seen, view}
+use Rattle.counter.specs.Layout.{two}
 use Rattle.counter.specs.Opening.{putPointers, putMark}
 use Rattle.counter.proofs.Ready.{ready-placed}
 use Rattle.counter.proofs.Fitted.{fitted-ready, ready-fitted, ready-short}
@@ -35,15 +36,15 @@ put-copies-requires c κs =
 pointers : (c : tie.After-mapped) → let put = put (c .before) in
     let s = row put .before .before .before .args in
     seen (c .mapped .result .work) (c .mapped .result .writes) (c .mapped .result .tried) (chip (put .put-copies .last .0) (put .put-copies .last .1 .0))
-    ≡ view (putPointers (s .addresses .now) 0 (s .p) (chip (s .image .now) (s .lives .now)))
+    ≡ view (putPointers (s .addresses .now) 0 two (s .p) (chip (s .image .now) (s .lives .now)))
 pointers c =
     let known = c .before in
     let put = known .before .before .before .before in
     let said = c .mapped .ensures in
-    rw (said .0, said .1, said .2) (pointers-said _ _ _ (rw (row put .pointer-row .ensures) at (put .put-copies .ensures)))
+    rw (said .0, said .1, said .2) (pointers-said two _ _ _ (rw (row put .pointer-row .ensures) at (put .put-copies .ensures)))
 
 returns : tie.Need-returns
-returns c = sym (said-stopped (putPointers _ 0 _ _) (putMark _) (pointers (c .before .before)) (sym (c .before .is-stopped .ensures) ∙ c .if1 .taken))
+returns c = sym (said-stopped (putPointers _ 0 two _ _) (putMark two _) (pointers (c .before .before)) (sym (c .before .is-stopped .ensures) ∙ c .if1 .taken))
 
 put-mark-requires : tie.Need-put-mark-requires
 put-mark-requires c κs =
@@ -54,16 +55,16 @@ put-mark-requires c κs =
 behind-requires : tie.Need-behind-requires
 behind-requires c κs =
     let mark = c .before .before .before .before in
-    let few = pointers-few _ _ _ (pointers (first mark)) in
+    let few = pointers-few two _ _ _ (pointers (first mark)) in
     let size = row (put (first mark .before)) .before .before .before .pre .1 in
-    let last = mark-few _ _ (mark .put-mark .ensures) in
+    let last = mark-few two _ _ (mark .put-mark .ensures) in
     (omega arith, omega arith, omega arith, omega arith)
 
 returns-2 : tie.Need-returns-2
 returns-2 c =
     let mark = c .before .before .before .before .before in
     let done = sym (mark .before .before .before .before .is-stopped .ensures) ∙ mark .before .before .before .if1 .left in
-    c .behind .ensures _ ∙ behind-done (putPointers _ 0 _ _) (putMark _) (pointers (first mark)) done (mark .put-mark .ensures)
+    c .behind .ensures _ ∙ behind-done (putPointers _ 0 two _ _) (putMark two _) (pointers (first mark)) done (mark .put-mark .ensures)
 
 pub put-map-spec : {M : Type 1} → statement M
 put-map-spec =

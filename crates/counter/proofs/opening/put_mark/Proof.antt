@@ -2,6 +2,7 @@
 use mathlib.Core.Path.{sym}
 use borrow.Author.Needs.{needs}
 use native.Mathlib.Omega.{arith}
+use Rattle.counter.specs.Layout.{two}
 use Rattle.counter.proofs.Ready.{ready-placed}
 use Rattle.counter.proofs.Fitted.{fitted-ready}
 use Rattle.counter.proofs.OpeningViews.{mark-said}
@@ -17,7 +18,7 @@ put-row-requires c κs =
 returns : tie.Need-returns
 returns c =
     let put = c .before .before .before .before .before in
-    rw (c .mapped .ensures .0, c .mapped .ensures .1, c .mapped .ensures .2) (sym (mark-said _ _ (put .put-row .ensures)))
+    rw (c .mapped .ensures .0, c .mapped .ensures .1, c .mapped .ensures .2) (sym (mark-said two _ _ (put .put-row .ensures)))
 
 pub put-mark-spec : {M : Type 1} → statement M
 put-mark-spec =

@@ -59,7 +59,7 @@ behind-requires c κs =
     let found = pointer .before .before .before .before in
     let spares = tried (found .before .before) in
     let tries = tries-few _ _ _ _ (spares .try-spares .ensures) in
-    let put = pointer-few _ _ _ _ (pointer .put-pointer .ensures) in
+    let put = pointer-few two _ _ _ _ (pointer .put-pointer .ensures) in
     let fits = gap-fits-here (spares .before .before .before) in
     let short = ready-short (fitted-ready (start (spares .before .before .before .before) .pre .0)) in
     (omega arith, omega arith, omega arith, omega arith)

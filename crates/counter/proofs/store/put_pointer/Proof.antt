@@ -34,7 +34,7 @@ returns c =
     let then = put .before .before .before .before in
     let s = start (then .before .before) in
     let m = c .mapped .ensures in
-    rw (m .0, m .1, m .2) (sym (low-pointer (s .args .p) (s .args .slot) (s .args .a) _ _ (then .before .before .offset-of .ensures) (then .if1 .taken) (put .put-row .ensures)))
+    rw (m .0, m .1, m .2) (sym (low-pointer two (s .args .p) (s .args .slot) (s .args .a) _ _ (then .before .before .offset-of .ensures) (then .if1 .taken) (put .put-row .ensures)))
 
 put-row-requires-2 : tie.Need-put-row-requires-2
 put-row-requires-2 c κs =
@@ -50,7 +50,7 @@ returns-2 c =
     let s = start (other .before .before) in
     let m = c .mapped2 .ensures in
     let reach = test-reach (kindOf (s .args .slot)) (s .args .a) (s .pre .3) (kind-high (s .args .slot) (other .if1 .left)) in
-    rw (m .0, m .1, m .2) (sym (high-pointer (s .args .p) (s .args .slot) (s .args .a) _ _ (other .before .before .offset-of .ensures) (other .if1 .left) reach (put .put-row2 .ensures)))
+    rw (m .0, m .1, m .2) (sym (high-pointer two (s .args .p) (s .args .slot) (s .args .a) _ _ (other .before .before .offset-of .ensures) (other .if1 .left) reach (put .put-row2 .ensures)))
 
 pub put-pointer-spec : {M : Type 1} → statement M
 put-pointer-spec =
