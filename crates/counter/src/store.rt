@@ -8,7 +8,7 @@ ghost use Rattle.cells.specs.Chip.{Chip, chip};
 ghost use Rattle.cells.specs.Run.{seen, view, plus};
 ghost use Rattle.counter.specs.Layout.{two, slots};
 ghost use Rattle.counter.specs.Slots.{kindOf};
-ghost use Rattle.counter.specs.Places.{placesGood, fitted};
+ghost use Rattle.counter.specs.Places.{places, placesGood, fitted};
 ghost use Rattle.counter.specs.Map.{mapIn, pointerOf, sound, reachable};
 ghost use Rattle.counter.specs.Verdict.{_andThen_};
 ghost use Rattle.counter.specs.Store.{mapped, putPointer, trySpares, moveSlot, storeSlot, store};
@@ -139,18 +139,26 @@ fn move_slot(image: &mut [u8], lives: &mut [u32], p: Places, slot: usize, byte: 
     }
 }
 
-// A byte moved behind work that took so many writes. What a move needs is laid out here, apart from what is usual.
+// A byte moved behind work that took so many writes. The places come as numbers, so that the compiler lays them out for a move
+// and not for what is usual.
 fn move_behind(
     image: &mut [u8],
     lives: &mut [u32],
-    p: Places,
+    m: usize,
+    s: usize,
+    e: usize,
     slot: usize,
     byte: u8,
     writes: usize,
 ) -> Stored
-    requires { ⌜ (fitted two p (chip (now image) (now lives)) ≡ true) × (sound two p (pointerOf (mapIn two p (now image))) ≡ true) × (slot < slots two) × (writes ≤ 2) ⌝ }
-    ensures { λ r. ⌜ seen (r .work) (r .writes) (r .tried) (chip (now (image .exit)) (now (lives .exit))) ≡ plus writes 0 (view (moveSlot two p slot byte (chip (now (image .entry)) (now (lives .entry))))) ⌝ }
+    requires { ⌜ (fitted two (places m s e) (chip (now image) (now lives)) ≡ true) × (sound two (places m s e) (pointerOf (mapIn two (places m s e) (now image))) ≡ true) × (slot < slots two) × (writes ≤ 2) ⌝ }
+    ensures { λ r. ⌜ seen (r .work) (r .writes) (r .tried) (chip (now (image .exit)) (now (lives .exit))) ≡ plus writes 0 (view (moveSlot two (places m s e) slot byte (chip (now (image .entry)) (now (lives .entry))))) ⌝ }
 {
+    let p = Places {
+        map: m,
+        start: s,
+        end: e,
+    };
     behind(writes, 0, move_slot(image, lives, p, slot, byte))
 }
 
@@ -176,7 +184,7 @@ fn store_at(
             tried: 0,
         };
     }
-    move_behind(image, lives, p, slot, byte, asked)
+    move_behind(image, lives, p.map, p.start, p.end, slot, byte, asked)
 }
 
 // A byte stored in a slot.
@@ -265,7 +273,16 @@ fn store_pair(image: &mut [u8], lives: &mut [u32], p: Places, nibble: usize, byt
     if taken.held {
         return store_at(image, lives, p, 8 + nibble, other, byte, taken.writes);
     }
-    let first = move_behind(image, lives, p, nibble, byte, taken.writes);
+    let first = move_behind(
+        image,
+        lives,
+        p.map,
+        p.start,
+        p.end,
+        nibble,
+        byte,
+        taken.writes,
+    );
     if is_stopped(first) {
         return first;
     }
