@@ -6,7 +6,7 @@
 --   slot-put, slot-moved      a byte was put at its slot's cell, or moved
 --   slot-still                a put that fails leaves the chip as it was, fit for the move
 --   slot-settled, store-settled  work that is done leaves a fitting chip with a sound map
---   slot-others               and a slot that was stored leaves the others' pointers
+--   slot-next                 and the pointer of another slot where it was
 --   storeLeft, store-left-all, store-left-none, store-left-done, store-left-stopped  what is left of a store
 use Prim.Native.Nat.{ℕ, suc, _+_, _-_, _/_, _%_, _≤_, _<_}
 use mathlib.Core.Path.{_≡_, sym, ap, _∙_}
@@ -166,10 +166,15 @@ module _ (layout : Layout) (p : Places) (s : Chip) {v : Seen Work} (good : fitte
       let laws = slot-laws (fitted-ready good) (test-sound layout p _ well) k l b in
       settled layout p s _ (fitted-ready good) (laws .within) (laws .settles (said-answer (storeSlot layout p k b s) e (stopped-not (v .answer) h)) .sound) e
 
-  -- the other slots' pointers stay
-  pub slot-others : (k b : ℕ) → k < slots layout → v ≡ view (storeSlot layout p k b s) → (j : ℕ) → j < slots layout → (j ≡ k → ⊥) → pointers layout p (v .after) j ≡ pointers layout p s j
-  slot-others k b l e j h d =
-      rw (said-after (storeSlot layout p k b s) e) (slot-laws (fitted-ready good) (test-sound layout p _ well) k l b .others j h d)
+  -- and another slot's pointer is where it was
+  pub slot-next :
+      (k b : ℕ) → k < slots layout → v ≡ view (storeSlot layout p k b s) → stopped (v .answer) ≡ false
+      → (j : ℕ) → j < slots layout → (j ≡ k → ⊥) → {at : ℕ} → at ≡ pointers layout p s j
+      → (fitted layout p (v .after) ≡ true) × (sound layout p (pointers layout p (v .after)) ≡ true) × (at ≡ pointers layout p (v .after) j)
+  slot-next k b l e h j m d here =
+      let fit = slot-settled k b l e h in
+      let same : pointers layout p (v .after) j ≡ pointers layout p s j = rw (said-after (storeSlot layout p k b s) e) (slot-laws (fitted-ready good) (test-sound layout p _ well) k l b .others j m d) in
+      (fit .0, fit .1, here ∙ sym same)
 
   pub store-settled : (c : ℕ) → v ≡ view (store layout p c s) → stopped (v .answer) ≡ false → (fitted layout p (v .after) ≡ true) × (sound layout p (pointers layout p (v .after)) ≡ true)
   store-settled c e h =

@@ -261,7 +261,7 @@ fn cells_of(image: &[u8], p: Places, nibble: usize) -> Pair
     }
 }
 
-// A byte stored in both slots of a nibble, copy 1 first. As a rule both puts hold, and the map says once where.
+// A byte stored in both slots of a nibble, copy 1 first. The map says once where: storing one leaves the pointer of the other.
 fn store_pair(image: &mut [u8], lives: &mut [u32], p: Places, nibble: usize, byte: u8) -> Stored
     requires { ⌜ (fitted two p (chip (now image) (now lives)) ≡ true) × (sound two p (pointerOf (mapIn two p (now image))) ≡ true) × (nibble < 8) ⌝ }
     ensures { λ r. ⌜ seen (r .work) (r .writes) (r .tried) (chip (now (image .exit)) (now (lives .exit))) ≡ view (storeSlot two p nibble byte (chip (now (image .entry)) (now (lives .entry))) andThen storeSlot two p (8 + nibble) byte) ⌝ }
@@ -289,7 +289,7 @@ fn store_pair(image: &mut [u8], lives: &mut [u32], p: Places, nibble: usize, byt
     behind(
         first.writes,
         first.tried,
-        store_slot(image, lives, p, 8 + nibble, byte),
+        store_at(image, lives, p, 8 + nibble, other, byte, 0),
     )
 }
 

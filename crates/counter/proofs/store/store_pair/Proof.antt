@@ -3,6 +3,7 @@ use Prim.Native.Nat.{_+_}
 use mathlib.Core.Path.{_≡_, refl, sym, _∙_}
 use mathlib.Core.Bool.{true, false}
 use borrow.Author.Needs.{needs}
+use native.Mathlib.Nat.{zero-add}
 use native.Mathlib.Omega.{arith}
 use Rattle.cells.specs.Chip.{chip}
 use Rattle.cells.specs.Run.{seen, view}
@@ -17,7 +18,7 @@ use Rattle.counter.proofs.SoundPointers.{test-sound}
 use Rattle.counter.proofs.Ready.{pointers, inside-cell}
 use Rattle.counter.proofs.Fitted.{fitted-ready}
 use Rattle.counter.proofs.Behind.{behind-done, said-stopped}
-use Rattle.counter.proofs.StoreViews.{slot-put, slot-still, slot-moved, slot-settled, slot-others}
+use Rattle.counter.proofs.StoreViews.{slot-put, slot-still, slot-moved, slot-next}
 use Rattle.counter.proofs.StoreCosts.{slot-few}
 use Rattle.counter.proofs.store.store_pair.Statement.{statement}
 use Rattle.counter.proofs.store.store_pair.Tie as tie
@@ -43,7 +44,7 @@ unheld c = c .before .before .before
 abbrev first : tie.Else2 → tie.After-move-behind
 first c = c .before .before .before .before .before .before
 
-abbrev second : tie.After-behind → tie.After-store-slot
+abbrev second : tie.After-behind → tie.After-store-at2
 second c = c .before .before .before .before .before
 
 -- ## The put at the first slot's cell
@@ -71,8 +72,7 @@ next-fit : (c : tie.Then1) → let s = start (held c) in let p = s .args .p in
     (fitted two p t ≡ true) × (sound two p (pointers two p t) ≡ true) × (cells (held c) .cells-of .result .other ≡ pointers two p t (8 + s .args .nibble))
 next-fit c =
     let s = start (held c) in
-    let fit = slot-settled two _ _ (s .pre .0) (s .pre .1) _ _ (omega arith) (stored c) refl in
-    (fit .0, fit .1, cells (held c) .cells-of .ensures .1 ∙ sym (slot-others two _ _ (s .pre .0) (s .pre .1) _ _ (omega arith) (stored c) _ (omega arith) (λ e. omega arith)))
+    slot-next two _ _ (s .pre .0) (s .pre .1) _ _ (omega arith) (stored c) refl _ (omega arith) (λ e. omega arith) (cells (held c) .cells-of .ensures .1)
 
 store-at-requires : tie.Need-store-at-requires
 store-at-requires c κs =
@@ -117,29 +117,36 @@ returns-2 c =
 done : (c : tie.Else2) → stopped (first c .move-behind .result .work) ≡ false
 done c = sym (c .before .is-stopped .ensures) ∙ c .if2 .left
 
--- and leaves the chip fit for the second
-settled : (c : tie.Else2) → let p = start (failed (unheld (first c))) .args .p in
+-- and leaves the chip fit for the second, whose pointer is as it was
+settled : (c : tie.Else2) → let put = failed (unheld (first c)) in let p = start put .args .p in
     let t = chip (first c .move-behind .last .0) (first c .move-behind .last .1 .0) in
-    (fitted two p t ≡ true) × (sound two p (pointers two p t) ≡ true)
+    (fitted two p t ≡ true) × (sound two p (pointers two p t) ≡ true) × (cells put .cells-of .result .other ≡ pointers two p t (8 + start put .args .nibble))
 settled c =
-    let s = start (failed (unheld (first c))) in
-    slot-settled two _ _ (s .pre .0) (s .pre .1) _ _ (omega arith) (moved-first (first c)) (done c)
+    let put = failed (unheld (first c)) in
+    let s = start put in
+    slot-next two _ _ (s .pre .0) (s .pre .1) _ _ (omega arith) (moved-first (first c)) (done c) _ (omega arith) (λ e. omega arith) (cells put .cells-of .ensures .1)
 
-add-store-slot : tie.Need-add-store-slot
-add-store-slot c = let low = start (failed (unheld (first (c .before .before)))) .pre .2 in omega arith
+add-store-at-2 : tie.Need-add-store-at-2
+add-store-at-2 c = let low = start (failed (unheld (first (c .before .before)))) .pre .2 in omega arith
 
-store-slot-requires : tie.Need-store-slot-requires
-store-slot-requires c κs =
+store-at-requires-2 : tie.Need-store-at-requires-2
+store-at-requires-2 c κs =
     let fit = settled (c .before .before) in
     let low = start (failed (unheld (first (c .before .before)))) .pre .2 in
-    (fit .0, fit .1, omega arith)
+    (fit .0, fit .1, omega arith, fit .2, omega arith)
+
+-- the second slot is stored or stopped
+stored-second : (c : tie.After-store-at2) → let other = c .before .before .before in
+    let s = start (failed (unheld (first other))) in let call = c .store-at2 in
+    seen (call .result .work) (call .result .writes) (call .result .tried) (chip (call .last .0) (call .last .1 .0)) ≡ view (storeSlot two (s .args .p) (8 + s .args .nibble) (s .args .byte) (chip (first other .move-behind .last .0) (first other .move-behind .last .1 .0)))
+stored-second c = c .store-at2 .ensures ∙ simp zero-add
 
 behind-requires : tie.Need-behind-requires
 behind-requires c κs =
     let call = c .before .before .before .before in
     let other = call .before .before .before in
     let one = slot-few (fitted-ready (start (failed (unheld (first other))) .pre .0)) _ _ (moved-first (first other)) in
-    let second = slot-few (fitted-ready (settled other .0)) _ _ (call .store-slot .ensures) in
+    let second = slot-few (fitted-ready (settled other .0)) _ _ (stored-second call) in
     (omega arith, omega arith, omega arith, omega arith)
 
 same-length-5 : tie.Need-same-length-5
@@ -148,7 +155,7 @@ same-length-5 c = let move = first (second c .before .before .before) in omega a
 returns-3 : tie.Need-returns-3
 returns-3 c =
     let other = second c .before .before .before in
-    c .behind .ensures _ ∙ behind-done (storeSlot two _ _ _ _) (storeSlot two _ _ _) (moved-first (first other)) (done other) (second c .store-slot .ensures)
+    c .behind .ensures _ ∙ behind-done (storeSlot two _ _ _ _) (storeSlot two _ _ _) (moved-first (first other)) (done other) (stored-second (second c))
 
 pub store-pair-spec : {M : Type 1} → statement M
 store-pair-spec =
@@ -166,8 +173,8 @@ store-pair-spec =
     (λ c. search needs)
     (λ c. search needs)
     returns-2
-    add-store-slot
-    store-slot-requires
+    add-store-at-2
+    store-at-requires-2
     behind-requires
     same-length-5
     (λ c. search needs)
