@@ -25,19 +25,19 @@ use Rattle.counter.specs.declared.verdict.Refusal.{Refusal}
 use Rattle.counter.specs.declared.verdict.Refusal.the-variants.{BadLength, BadPlaces, NoMark, LastCount}
 use Rattle.counter.specs.declared.standing.Standing.the-variants.{Unfit, Unmarked, Marked}
 use Rattle.counter.specs.Layout.{Layout}
-use Rattle.counter.specs.Places.{lengthGood, placesGood, livesGood, fitted}
+use Rattle.counter.specs.Places.{lengthGood, placesGood, livesGood}
 use Rattle.counter.specs.Map.{mapIn, marked, pointerOf, sound}
 use Rattle.counter.specs.Verdict.{outcome, outcomeOf, refusalOf, answerOf, ending, onGood, provided, _endingIn_}
 use Rattle.counter.specs.Reading.{unless, examine, verdictOf}
 use Rattle.counter.specs.Store.{store}
 use Rattle.counter.proofs.SoundPointers.{sound-test}
 use Rattle.counter.proofs.Standings.{stands-unfit, stands-unmarked, stands-marked, guard-unfit, guard-marked}
-use Rattle.counter.proofs.RangeTests.{and-true, true-and}
+use Rattle.counter.proofs.RangeTests.{both-hold, hold-both}
 use Rattle.counter.proofs.Ready.{Ready}
 use Rattle.counter.proofs.Fitted.{fitted-ready, ready-fitted}
 use Rattle.counter.proofs.GoodVerdicts.{verdict-good}
 use Rattle.counter.specs.Doors.{lastCount, chipVerdict, reopening, beginning, openRun, stepping, stepRun}
-use Rattle.counter.specs.Inside.{standingOf}
+use Rattle.counter.specs.Inside.{fitted, standingOf}
 
 -- of storing that ends a call
 pub outcome-ending : (r : Run Work) {v : Seen Work} → v ≡ view r → (x : Verdict)
@@ -72,17 +72,17 @@ module _ (layout : Layout) (p : Places) (s : Chip) where
   -- a chip is opened for the first time where it is fit and has no mark
   pub unopened-ready : unopened layout p s ≡ true → Ready layout p s
   unfolding unopened
-  unopened-ready e = fitted-ready (and-true (fitted layout p s) _ e .0)
+  unopened-ready e = fitted-ready (both-hold (fitted layout p s) _ e .0)
 
   pub ready-unopened : Ready layout p s → marked (mapIn layout p (s .cells)) ≡ false → unopened layout p s ≡ true
   unfolding unopened
-  ready-unopened ready e = true-and _ _ (ready-fitted ready) (ap not e)
+  ready-unopened ready e = hold-both _ _ (ready-fitted ready) (ap not e)
 
   pub open-first : unopened layout p s ≡ true → openRun layout p s ≡ beginning layout p s
   unfolding openRun unopened livesGood
   open-first e =
       let ready = unopened-ready e in
-      rw (eq-eqb _ _ (ready .paired), ready .long, ready .good, not-true (marked (mapIn layout p (s .cells))) (and-true (fitted layout p s) _ e .1))
+      rw (eq-eqb _ _ (ready .paired), ready .long, ready .good, not-true (marked (mapIn layout p (s .cells))) (both-hold (fitted layout p s) _ e .1))
 
   pub open-again : unopened layout p s ≡ false → openRun layout p s ≡ settling layout p (chipVerdict layout p s) s
   unfolding openRun unopened fitted chipVerdict verdictOf

@@ -11,8 +11,9 @@ use borrow.Author.Tests.{leb-true, eq-eqb, eqb-true}
 use Rattle.cells.specs.Chip.{Chip}
 use Rattle.counter.specs.declared.places.Places.{Places}
 use Rattle.counter.specs.Layout.{Layout, slots, mapCells}
-use Rattle.counter.specs.Places.{lengthGood, placesGood, livesGood, fitted}
-use Rattle.counter.proofs.RangeTests.{and-true, true-and}
+use Rattle.counter.specs.Places.{lengthGood, placesGood, livesGood}
+use Rattle.counter.specs.Inside.{fitted}
+use Rattle.counter.proofs.RangeTests.{both-hold, hold-both}
 use Rattle.counter.proofs.Ready.{Ready}
 
 module _ {layout : Layout} {p : Places} {s : Chip} where
@@ -23,14 +24,14 @@ module _ {layout : Layout} {p : Places} {s : Chip} where
   pub fitted-ready : fitted layout p s ≡ true → Ready layout p s
   unfolding fitted
   fitted-ready h =
-      let h₁ = and-true _ (placesGood layout (length (s .cells)) p) h in
-      let h₂ = and-true (livesGood s) _ (h₁ .0) in
+      let h₁ = both-hold _ (placesGood layout (length (s .cells)) p) h in
+      let h₂ = both-hold (livesGood s) _ (h₁ .0) in
       tests-ready (h₂ .0) (h₂ .1) (h₁ .1)
 
   pub ready-fitted : Ready layout p s → fitted layout p s ≡ true
   unfolding fitted livesGood
-  ready-fitted r = true-and _ _ (true-and _ _ (eq-eqb _ _ (r .paired)) (r .long)) (r .good)
+  ready-fitted r = hold-both _ _ (hold-both _ _ (eq-eqb _ _ (r .paired)) (r .long)) (r .good)
 
   pub ready-short : Ready layout p s → length (s .cells) ≤ 4096
   unfolding lengthGood
-  ready-short r = leb-true _ _ (and-true (leb (1 + mapCells layout + slots layout) (length (s .cells))) _ (r .long) .1)
+  ready-short r = leb-true _ _ (both-hold (leb (1 + mapCells layout + slots layout) (length (s .cells))) _ (r .long) .1)

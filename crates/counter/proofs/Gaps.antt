@@ -31,7 +31,7 @@ use Rattle.counter.specs.declared.spares.Gap.{Gap}
 use Rattle.counter.specs.Slots.{kindOf}
 use Rattle.counter.specs.Map.{inArea}
 use Rattle.counter.specs.Spares.{gap, wholeArea, narrow, gapTo, gapOf, mayTry, wayOf, nextOf, sparesOf}
-use Rattle.counter.proofs.RangeTests.{and-true, true-and}
+use Rattle.counter.proofs.RangeTests.{both-hold, hold-both}
 use Rattle.counter.proofs.SoundPointers.{Inside, Sound}
 use native.Mathlib.Numerals.{add-one}
 use Rattle.counter.specs.Layout.{Layout, slots}
@@ -165,18 +165,18 @@ pub free-may :
 unfolding OnFrom mayTry
 free-may High b f =
     let i = free-spare b f .inside in
-    (f .from, true-and _ _ (true-and _ _ (true-and _ _ (le-leb _ _ (i .from)) (le-leb _ _ (i .to))) (le-leb _ _ (f .reach refl))) (lt-ltb _ _ (f .to)))
+    (f .from, hold-both _ _ (hold-both _ _ (hold-both _ _ (le-leb _ _ (i .from)) (le-leb _ _ (i .to))) (le-leb _ _ (f .reach refl))) (lt-ltb _ _ (f .to)))
 free-may Low b f =
     let i = free-spare b f .inside in
-    (f .to, true-and _ _ (true-and _ _ (le-leb _ _ (i .from)) (le-leb _ _ (i .to))) (le-leb _ _ (f .from)))
+    (f .to, hold-both _ _ (hold-both _ _ (le-leb _ _ (i .from)) (le-leb _ _ (i .to))) (le-leb _ _ (f .from)))
 
 pub may-free : (kind : Kind) (p : Places) (g : Gap) (a : ℕ) → OnFrom kind g a → mayTry p kind g a ≡ true → Free kind g a
 unfolding OnFrom mayTry
 may-free High p g a on may =
-    let both = and-true (inArea p a && leb a 255) _ may in
-    record { from = on; to = ltb-true _ _ (both .1); reach = λ e. leb-true _ _ (and-true (inArea p a) _ (both .0) .1) }
+    let both = both-hold (inArea p a && leb a 255) _ may in
+    record { from = on; to = ltb-true _ _ (both .1); reach = λ e. leb-true _ _ (both-hold (inArea p a) _ (both .0) .1) }
 may-free Low p g a on may =
-    record { from = leb-true _ _ (and-true (inArea p a) _ may .1); to = on; reach = λ e. absurd (true≢false cc) }
+    record { from = leb-true _ _ (both-hold (inArea p a) _ may .1); to = on; reach = λ e. absurd (true≢false cc) }
 
 -- a walk over the spares of a kind goes over the free cells, and over all of them
 pub walked-free : (kind : Kind) (g : Gap) (j : ℕ) → j < sparesOf kind g → Free kind g (nth (wayOf kind) (nextOf kind g) j)
@@ -197,7 +197,7 @@ unfolding sparesOf wayOf nextOf OnFrom mayTry
 spares-tried High {p = p} {g = g} first b j =
     (λ l. free-may High b (walked-free High g j l) .1, λ may. let f = may-free High p g (g .high + j) (omega arith) may in let reach = f .reach refl in omega arith)
 spares-tried Low {p = p} {g = g} first b j =
-    (λ l. free-may Low b (walked-free Low g j l) .1, λ may. let from = leb-true (g .high) _ (and-true (inArea p (g .low - 1 - j)) _ may .1) in omega arith)
+    (λ l. free-may Low b (walked-free Low g j l) .1, λ may. let from = leb-true (g .high) _ (both-hold (inArea p (g .low - 1 - j)) _ may .1) in omega arith)
 
 -- a gap is all that its properties say
 pub between-unique :

@@ -12,7 +12,6 @@ pub mod Fitted
 pub mod Pointers
 pub mod Tries
 pub mod Moves
-pub mod Written
 pub mod Stores
 pub mod Behind
 pub mod StoreViews

@@ -14,7 +14,7 @@ use Rattle.counter.specs.declared.map.Kind.the-variants.{High, Low}
 use Rattle.counter.specs.declared.places.Places.{Places}
 use Rattle.counter.specs.declared.spares.Gap.{Gap}
 use Rattle.counter.specs.Spares.{mayTry}
-use Rattle.counter.proofs.RangeTests.{and-true}
+use Rattle.counter.proofs.RangeTests.{both-hold}
 
 pub try-before : (p : Places) (kind : Kind) (g : Gap) (a : ℕ) → a < p .start → mayTry p kind g a ≡ false
 unfolding mayTry
@@ -50,9 +50,9 @@ pub record Tried (p : Places) (kind : Kind) (g : Gap) (a : ℕ) : Type 0 where
 pub tried-facts : (p : Places) (kind : Kind) (g : Gap) (a : ℕ) → mayTry p kind g a ≡ true → Tried p kind g a
 unfolding mayTry
 tried-facts p High g a h =
-    let border = and-true _ (ltb a (g .low)) h in
-    let reach = and-true _ (leb a 255) (border .0) in
-    let inside = and-true (leb (p .start) a) _ (reach .0) in
+    let border = both-hold _ (ltb a (g .low)) h in
+    let reach = both-hold _ (leb a 255) (border .0) in
+    let inside = both-hold (leb (p .start) a) _ (reach .0) in
     record {
       from = leb-true _ _ (inside .0);
       to = leb-true _ _ (inside .1);
@@ -61,8 +61,8 @@ tried-facts p High g a h =
       above = λ e. absurd (true≢false cc);
     }
 tried-facts p Low g a h =
-    let area = and-true _ _ h in
-    let inside = and-true (leb (p .start) a) _ (area .0) in
+    let area = both-hold _ _ h in
+    let inside = both-hold (leb (p .start) a) _ (area .0) in
     record {
       from = leb-true _ _ (inside .0);
       to = leb-true _ _ (inside .1);

@@ -24,11 +24,11 @@ use Rattle.counter.specs.declared.places.Places.{Places}
 use Rattle.counter.specs.declared.verdict.Work.{Work}
 use Rattle.counter.specs.declared.verdict.Work.the-variants.{Done, Stopped}
 use Rattle.counter.specs.Layout.{Layout, two, slots}
-use Rattle.counter.specs.Places.{fitted}
 use Rattle.counter.specs.Map.{sound}
 use Rattle.counter.specs.Verdict.{_andThen_}
 use Rattle.counter.specs.Store.{slotCode, storeSlot, storeFrom, store}
-use Rattle.counter.specs.Inside.{Holds}
+use Rattle.counter.specs.Doors.{lastCount}
+use Rattle.counter.specs.Inside.{fitted, Holds}
 use Rattle.counter.proofs.SoundPointers.{Sound, test-sound}
 use Rattle.counter.proofs.Ready.{pointers, dataOf, Ready, ready-kept}
 use Rattle.counter.proofs.Moves.{change, SlotLaws, slot-there, slot-laws}
@@ -158,7 +158,7 @@ module _ (p : Places) (c : ℕ) (s : Chip) (small : c + 1 < 2 ^ 32) (ready : Rea
 -- ## Over the tests and the numbers that code has at hand
 
 module _ (p : Places) (c : ℕ) (s : Chip) (good : fitted two p s ≡ true) (well : sound two p (pointers two p s) ≡ true)
-    (below : c < 4294967295) (held : Holds two p c (s .cells)) {k b : ℕ} (here : k ≡ changedNibble c) (code : b ≡ codeOf (nibbleOf (grayOf (c + 1)) k)) where
+    (below : c < lastCount) (held : Holds two p c (s .cells)) {k b : ℕ} (here : k ≡ changedNibble c) (code : b ≡ codeOf (nibbleOf (grayOf (c + 1)) k)) where
   -- the code of both slots
   code-is : (j : ℕ) → j % 8 ≡ changedNibble c → slotCode (c + 1) j ≡ b
   unfolding slotCode

@@ -21,7 +21,7 @@ use Rattle.counter.specs.Places.{lengthGood, placesGood}
 use Rattle.counter.specs.Map.{mapIn, marked, pointerOf, sound, partAt}
 use Rattle.counter.specs.Verdict.{refusalOf}
 use Rattle.counter.specs.Doors.{part, partVerdict, mapPartOf}
-use Rattle.counter.proofs.RangeTests.{and-true}
+use Rattle.counter.proofs.RangeTests.{both-hold}
 use Rattle.counter.proofs.Settings.{good-placed}
 use Rattle.counter.proofs.GoodVerdicts.{unless-good}
 
@@ -39,7 +39,7 @@ module _ (p : Places) (cells : List ℕ) (copy : ℕ) where
       let good = unless-good (placesGood two (length cells) p) BadPlaces _ (long .1) in
       let mark = unless-good (marked (mapIn two p cells)) NoMark _ (good .1) in
       let well = unless-good (sound two p (pointerOf (mapIn two p cells))) UnsoundMap _ (mark .1) in
-      let known = and-true (leb 1 copy) _ (unless-good (leb 1 copy && leb copy (two .copies)) BadCopy _ (well .1) .0) in
+      let known = both-hold (leb 1 copy) _ (unless-good (leb 1 copy && leb copy (two .copies)) BadCopy _ (well .1) .0) in
       let from = leb-true 1 copy (known .0) in
       let to = leb-true copy (two .copies) (known .1) in
       let placed = good-placed two (length cells) p (good .0) in

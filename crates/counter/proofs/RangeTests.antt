@@ -1,6 +1,6 @@
 -- Tests over a range of numbers, turned into facts and back.
---   and-true, true-and        both tests hold
---   or-true                   one of the tests holds
+--   both-hold, hold-both        both tests hold
+--   one-holds                   one of the tests holds
 --   every-all, all-every      the test holds of each number below n
 --   every-not                 a number of which it does not hold
 --   none-some                 the test holds of no number below n
@@ -21,16 +21,16 @@ use Rattle.counter.specs.Slots.{every, some, lowest}
 use native.Mathlib.Numerals.{add-one}
 use Rattle.cells.specs.declared.row.Found.{Found}
 
-pub and-true : (a b : Bool) → a && b ≡ true → (a ≡ true) × (b ≡ true)
-and-true true b h = (refl, h)
-and-true false b h = (h, cc)
+pub both-hold : (a b : Bool) → a && b ≡ true → (a ≡ true) × (b ≡ true)
+both-hold true b h = (refl, h)
+both-hold false b h = (h, cc)
 
-pub true-and : (a b : Bool) → a ≡ true → b ≡ true → a && b ≡ true
-true-and a b g h = rw (g, h)
+pub hold-both : (a b : Bool) → a ≡ true → b ≡ true → a && b ≡ true
+hold-both a b g h = rw (g, h)
 
-pub or-true : (a b : Bool) → a || b ≡ true → (a ≡ true) ⊎ (b ≡ true)
-or-true true b h = inl refl
-or-true false b h = inr h
+pub one-holds : (a b : Bool) → a || b ≡ true → (a ≡ true) ⊎ (b ≡ true)
+one-holds true b h = inl refl
+one-holds false b h = inr h
 
 pub every-all : (n : ℕ) (test : ℕ → Bool) → every n test ≡ true → (k : ℕ) → k < n → test k ≡ true
 unfolding every
@@ -38,7 +38,7 @@ every-all zero test h k l = absurd (omega arith)
 every-all (suc n) test h k l = go (every-all n test (both .0) k) (ℕ-discrete k n)
   where
     both : (every n test ≡ true) × (test n ≡ true)
-    both = and-true (every n test) (test n) h
+    both = both-hold (every n test) (test n) h
 
     go : (k < n → test k ≡ true) → Dec (k ≡ n) → test k ≡ true
     go below (yes e) = rw e (both .1)
@@ -47,7 +47,7 @@ every-all (suc n) test h k l = go (every-all n test (both .0) k) (ℕ-discrete k
 pub all-every : (n : ℕ) (test : ℕ → Bool) → ((k : ℕ) → k < n → test k ≡ true) → every n test ≡ true
 unfolding every
 all-every zero test h = refl
-all-every (suc n) test h = true-and (every n test) (test n) (all-every n test (λ k l. h k (omega arith))) (h n (omega arith))
+all-every (suc n) test h = hold-both (every n test) (test n) (all-every n test (λ k l. h k (omega arith))) (h n (omega arith))
 
 pub every-not : (n : ℕ) (test : ℕ → Bool) (k : ℕ) → k < n → test k ≡ false → every n test ≡ false
 every-not n test k l f = go (every n test) refl
@@ -107,7 +107,7 @@ never false h = refl
 
 pub every-more : (n : ℕ) (test : ℕ → Bool) → every n test ≡ true → test n ≡ true → every (n + 1) test ≡ true
 unfolding every
-every-more n test below here = rw (add-one n) (true-and (every n test) (test n) below here)
+every-more n test below here = rw (add-one n) (hold-both (every n test) (test n) below here)
 
 module _ (m n : ℕ) (test : ℕ → Bool) (l : n < m) where
   left : m - n ≡ suc (m - (n + 1))

@@ -14,7 +14,7 @@ use borrow.Author.Tests.{leb-true, ltb-true, le-leb, lt-ltb}
 use Rattle.counter.specs.declared.places.Places.{Places}
 use Rattle.counter.specs.Layout.{Layout, slots, mapCells}
 use Rattle.counter.specs.Places.{lengthGood, placesGood}
-use Rattle.counter.proofs.RangeTests.{and-true, or-true, never}
+use Rattle.counter.proofs.RangeTests.{both-hold, one-holds, never}
 
 pub record Placed (layout : Layout) (n : ℕ) (p : Places) : Type 0 where
   pub mapLow : 1 ≤ p .map
@@ -28,12 +28,12 @@ pub record Placed (layout : Layout) (n : ℕ) (p : Places) : Type 0 where
 pub good-placed : (layout : Layout) (n : ℕ) (p : Places) → placesGood layout n p ≡ true → Placed layout n p
 unfolding placesGood
 good-placed layout n p h =
-    let h₁ = and-true _ (leb (p .map + mapCells layout) (p .start) || ltb (p .end) (p .map)) h in
-    let h₂ = and-true _ (leb (p .start + slots layout) (p .end + 1)) (h₁ .0) in
-    let h₃ = and-true _ (leb (p .start) (256 - 5 * layout .copies)) (h₂ .0) in
-    let h₄ = and-true _ (ltb (p .end) n) (h₃ .0) in
-    let h₅ = and-true _ (leb (p .map + mapCells layout) n) (h₄ .0) in
-    let h₆ = and-true (leb 1 (p .map)) (leb 1 (p .start)) (h₅ .0) in
+    let h₁ = both-hold _ (leb (p .map + mapCells layout) (p .start) || ltb (p .end) (p .map)) h in
+    let h₂ = both-hold _ (leb (p .start + slots layout) (p .end + 1)) (h₁ .0) in
+    let h₃ = both-hold _ (leb (p .start) (256 - 5 * layout .copies)) (h₂ .0) in
+    let h₄ = both-hold _ (ltb (p .end) n) (h₃ .0) in
+    let h₅ = both-hold _ (leb (p .map + mapCells layout) n) (h₄ .0) in
+    let h₆ = both-hold (leb 1 (p .map)) (leb 1 (p .start)) (h₅ .0) in
     record {
       mapLow = leb-true _ _ (h₆ .0);
       startLow = leb-true _ _ (h₆ .1);
@@ -41,7 +41,7 @@ good-placed layout n p h =
       endFits = ltb-true _ _ (h₄ .1);
       startReaches = leb-true _ _ (h₃ .1);
       large = leb-true _ _ (h₂ .1);
-      apart = side (or-true _ _ (h₁ .1));
+      apart = side (one-holds _ _ (h₁ .1));
     }
   where
     side :
@@ -53,7 +53,7 @@ good-placed layout n p h =
 pub length-good : (layout : Layout) (n : ℕ) → lengthGood layout n ≡ true → (1 + mapCells layout + slots layout ≤ n) × (n ≤ 4096)
 unfolding lengthGood
 length-good layout n h =
-    let both = and-true (leb (1 + mapCells layout + slots layout) n) _ h in
+    let both = both-hold (leb (1 + mapCells layout + slots layout) n) _ h in
     (leb-true _ _ (both .0), leb-true _ _ (both .1))
 
 -- no map cell is a cell of the area

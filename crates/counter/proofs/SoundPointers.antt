@@ -18,7 +18,7 @@ use Rattle.counter.specs.declared.places.Places.{Places}
 use Rattle.counter.specs.Layout.{Layout, slots}
 use Rattle.counter.specs.Slots.{kindOf, every}
 use Rattle.counter.specs.Map.{inArea, reachable, inOrder, sound}
-use Rattle.counter.proofs.RangeTests.{and-true, true-and, every-all, all-every}
+use Rattle.counter.proofs.RangeTests.{both-hold, hold-both, every-all, all-every}
 
 pub record Inside (p : Places) (a : ℕ) : Type 0 where
   pub from : p .start ≤ a
@@ -33,11 +33,11 @@ pub record Sound (n : ℕ) (p : Places) (pointer : ℕ → ℕ) : Type 0 where
 
 test-inside : (p : Places) (a : ℕ) → inArea p a ≡ true → Inside p a
 test-inside p a h =
-    let both = and-true (leb (p .start) a) _ h in
+    let both = both-hold (leb (p .start) a) _ h in
     record { from = leb-true _ _ (both .0); to = leb-true _ _ (both .1) }
 
 inside-test : (p : Places) (a : ℕ) → Inside p a → inArea p a ≡ true
-inside-test p a h = true-and _ _ (le-leb _ _ (h .from)) (le-leb _ _ (h .to))
+inside-test p a h = hold-both _ _ (le-leb _ _ (h .from)) (le-leb _ _ (h .to))
 
 pub test-reach : (kind : Kind) (a : ℕ) → reachable kind a ≡ true → kind ≡ High → a ≤ 255
 unfolding reachable
@@ -77,9 +77,9 @@ module _ (layout : Layout) (p : Places) (pointer : ℕ → ℕ) where
   pub test-sound : sound layout p pointer ≡ true → Sound (slots layout) p pointer
   unfolding sound
   test-sound h =
-      let h₁ = and-true _ (every (slots layout) (λ i. every (slots layout) (λ j. inOrder (kindOf i) (kindOf j) (pointer i) (pointer j)))) h in
-      let h₂ = and-true _ (every (slots layout) (λ j. every j (λ i. not (eqb (pointer i) (pointer j))))) (h₁ .0) in
-      let h₃ = and-true (every (slots layout) (λ k. inArea p (pointer k))) _ (h₂ .0) in
+      let h₁ = both-hold _ (every (slots layout) (λ i. every (slots layout) (λ j. inOrder (kindOf i) (kindOf j) (pointer i) (pointer j)))) h in
+      let h₂ = both-hold _ (every (slots layout) (λ j. every j (λ i. not (eqb (pointer i) (pointer j))))) (h₁ .0) in
+      let h₃ = both-hold (every (slots layout) (λ k. inArea p (pointer k))) _ (h₂ .0) in
       record {
         inside = λ k l. test-inside p (pointer k) (every-all _ _ (h₃ .0) k l);
         reach = λ k l. test-reach (kindOf k) (pointer k) (every-all _ _ (h₃ .1) k l);
@@ -90,9 +90,9 @@ module _ (layout : Layout) (p : Places) (pointer : ℕ → ℕ) where
   pub sound-test : Sound (slots layout) p pointer → sound layout p pointer ≡ true
   unfolding sound
   sound-test s =
-      true-and _ _
-      (true-and _ _
-      (true-and _ _ (all-every _ _ (λ k l. inside-test p (pointer k) (s .inside k l))) (all-every _ _ (λ k l. reach-test (kindOf k) (pointer k) (s .reach k l))))
+      hold-both _ _
+      (hold-both _ _
+      (hold-both _ _ (all-every _ _ (λ k l. inside-test p (pointer k) (s .inside k l))) (all-every _ _ (λ k l. reach-test (kindOf k) (pointer k) (s .reach k l))))
       (all-every _ _ (λ j m. all-every j _ (λ i l. ap not (ne-eqb (pointer i) (pointer j) (s .apart i j (omega arith) m (λ e. omega arith)))))))
       (all-every _ _ (λ i l. all-every _ _ (λ j m. order-test (kindOf i) (kindOf j) (pointer i) (pointer j) (s .order i j l m))))
 

@@ -24,7 +24,7 @@ use Rattle.counter.specs.declared.verdict.Work.{Work}
 use Rattle.counter.specs.declared.verdict.Work.the-variants.{Done}
 use Rattle.counter.specs.Layout.{Layout, slots}
 use Rattle.counter.specs.Slots.{kindOf}
-use Rattle.counter.specs.Places.{fitted}
+use Rattle.counter.specs.Inside.{fitted}
 use Rattle.counter.specs.Map.{offsetOf, pointerBytes, sound}
 use Rattle.counter.specs.Verdict.{_andThen_}
 use Rattle.counter.specs.Store.{slotCode, putPointer, trySpares, moveSlot, storeSlot, storeFrom, store}

@@ -32,7 +32,6 @@ use Rattle.counter.specs.declared.verdict.Work.the-variants.{Done, Stopp
 use Rattle.counter.specs.declared.verdict.Refusal.the-variants.{NoSpare}
 use Rattle.counter.specs.Layout.{Layout, slots}
 use Rattle.counter.specs.Slots.{kindOf}
-use Rattle.counter.specs.Places.{fitted}
 use Rattle.counter.specs.Map.{offsetOf, pointerBytes, reachable, sound}
 use Rattle.counter.specs.Verdict.{_andThen_}
 use Rattle.counter.specs.Store.{mapped, putPointer, trySpares, moveSlot, slotCode, storeSlot, storeFrom, store}
@@ -43,7 +42,7 @@ use Rattle.counter.proofs.Ready.{pointers, Ready, Own, ready-placed, re
 use Rattle.counter.proofs.Fitted.{fitted-ready, ready-fitted, ready-short}
 use Rattle.counter.proofs.Tries.{Trying, Trying.missing, Trying.landing, TryLaws, try-laws}
 use Rattle.counter.proofs.Moves.{gapAt, tries, first, move-missing, move-landing, slot-held, slot-failed, slot-laws}
-use Rattle.counter.specs.Inside.{stopped}
+use Rattle.counter.specs.Inside.{fitted, stopped}
 use Rattle.counter.proofs.Stores.{store-laws}
 use Rattle.counter.proofs.Behind.{stopped-not, said-done, said-stopped}
 

@@ -10,7 +10,7 @@ use native.Mathlib.Nat.{zero-add}
 use native.Mathlib.Omega.{arith}
 use Rattle.code.specs.declared.reading.Reading.{Reading}
 use Rattle.code.specs.Readings.{readingOf, twofold, isLost, nibbleRead}
-use Rattle.code.specs.Entries.{readingAt, twofoldAt as twofoldEntry, entryOf}
+use Rattle.code.specs.Entries.{readingAt, twofoldAt, entryOf}
 use Rattle.code.specs.Gray.{countOf}
 use Rattle.code.specs.Nibbles.{wordOf}
 use Rattle.code.proofs.ReadingLaws.{entry-reading, entry-twofold, lost-zero}
@@ -65,8 +65,8 @@ module _ (byte entry : ℕ → ℕ) (small : (k : ℕ) → k < 16 → byte k < 2
   read : (k : ℕ) → k < 16 → readingOf (byte k) ≡ readingAt (entry k)
   read k l = sym (entry-reading (byte k) (small k l)) ∙ ap readingAt (sym (are k l))
 
-  folded : (k : ℕ) → k < 16 → twofold (byte k) ≡ twofoldEntry (entry k)
-  folded k l = sym (entry-twofold (byte k) (small k l)) ∙ ap twofoldEntry (sym (are k l))
+  folded : (k : ℕ) → k < 16 → twofold (byte k) ≡ twofoldAt (entry k)
+  folded k l = sym (entry-twofold (byte k) (small k l)) ∙ ap twofoldAt (sym (are k l))
 
   twofold-entries : lowest 8 0 (someTwofold two byte) ≡ lowest 8 0 (λ n. amiss Twofold (entry n) (entry (8 + n)))
   unfolding some

@@ -5,6 +5,7 @@ use mathlib.Core.Bool.{Bool, true, false, cond, _&&_, _||_}
 use mathlib.Core.List.{List, [], _∷_, _++_}
 use lib.ListN.{length, getD}
 use lib.Dec.{ltb}
+use Rattle.cells.specs.Chip.{Chip}
 use Rattle.code.specs.Readings.{isLost}
 use Rattle.code.specs.Entries.{readingAt, twofoldAt}
 use Rattle.counter.specs.declared.places.Places.{Places}
@@ -17,10 +18,14 @@ use Rattle.counter.specs.declared.verdict.Work.the-variants.{Done, Stopp
 use Rattle.counter.specs.declared.verdict.Refusal.the-variants.{BadLength, BadPlaces, NoSpare}
 use Rattle.counter.specs.Layout.{Layout, two, slots, mapCells}
 use Rattle.counter.specs.Slots.{kindOf}
-use Rattle.counter.specs.Places.{lengthGood, placesGood}
+use Rattle.counter.specs.Places.{lengthGood, placesGood, livesGood}
 use Rattle.counter.specs.Map.{mapIn, marked, pointerOf, pointerBytes}
 use Rattle.counter.specs.Reading.{dataAt}
 use Rattle.counter.specs.Store.{slotCode}
+
+-- a chip lent with its lives, of which refusals 1 and 2 do not hold
+unfoldable pub fitted : Layout → Places → Chip → Bool
+fitted layout p s = livesGood s && lengthGood layout (length (s .cells)) && placesGood layout (length (s .cells)) p
 
 -- how an image stands before its map is looked at: refusals 1, 2 and 3
 unfoldable pub standingOf : Layout → Places → List ℕ → Standing

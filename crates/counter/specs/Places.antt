@@ -33,7 +33,3 @@ placesGood layout n p =
 -- lives as many as the cells
 unfoldable pub livesGood : Chip → Bool
 livesGood s = eqb (length (s .lives)) (length (s .cells))
-
--- a chip lent with its lives, of which refusals 1 and 2 do not hold
-unfoldable pub fitted : Layout → Places → Chip → Bool
-fitted layout p s = livesGood s && lengthGood layout (length (s .cells)) && placesGood layout (length (s .cells)) p

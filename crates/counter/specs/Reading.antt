@@ -35,7 +35,7 @@ firstRead (suc left) copy reading n =
     let own = reading (8 * copy + n) in
     cond (isLost own) other (nibbleRead own)
 
--- nibble n of a copy; a lost nibble takes the other copy's
+-- nibble n of a copy; a lost nibble takes the other copy's (of two copies: `nibble-two`, proofs/Weighed.antt)
 unfoldable pub nibbleIn : Layout → (ℕ → Reading) → ℕ → ℕ → ℕ
 nibbleIn layout reading copy n =
     let own = reading (8 * copy + n) in
@@ -86,7 +86,7 @@ examine layout p cells =
     let map = mapIn layout p cells in
     unless (sound layout p (pointerOf map)) UnsoundMap (weigh layout (dataAt cells map))
 
--- the first tests of every door, in the order of the table: refusals 1, 2 and 3, or the rest
+-- the first tests of read, step and map part, in the order of the table: refusals 1, 2 and 3, or the rest
 abbrev pub guarded : Layout → Places → List ℕ → Verdict → Verdict
 guarded layout p cells rest =
     unless (lengthGood layout (length cells)) BadLength

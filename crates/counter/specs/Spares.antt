@@ -51,7 +51,7 @@ unfoldable pub nextOf : Kind → Gap → ℕ
 nextOf High g = g .high
 nextOf Low g = g .low - 1
 
--- how many cells are tried from the next address on: just those of which `mayTry` holds (`spares-tried`, proofs/Gaps.antt)
+-- how many cells may be tried from the next address on: just those of which `mayTry` holds (`spares-tried`, proofs/Gaps.antt)
 unfoldable pub sparesOf : Kind → Gap → ℕ
 sparesOf High g = min 256 (g .low) - g .high
 sparesOf Low g = g .low - g .high

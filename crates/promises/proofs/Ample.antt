@@ -27,7 +27,7 @@ use Rattle.counter.proofs.SoundPointers.{Sound}
 use Rattle.counter.proofs.Ready.{pointers, dataOf, Ready}
 use Rattle.counter.proofs.Moves.{change, slot-there}
 use Rattle.counter.proofs.WorkSteps.{store-all, store-none, store-next}
-use Rattle.counter.proofs.Written.{slot-written, written-map, written-ready, written-sound, written-data, written-life}
+use Rattle.promises.proofs.Written.{slot-written, written-map, written-ready, written-sound, written-data, written-life}
 
 -- w in front of ws, where the test does not hold
 abbrev pub unlessSame : Bool → Write → List Write → List Write

@@ -18,7 +18,7 @@ use Rattle.code.specs.Nibbles.{wordOf}
 use Rattle.counter.specs.declared.verdict.Answer.{Answer}
 use Rattle.counter.specs.Layout.{two}
 use Rattle.counter.specs.Slots.{kindOf, every, some, lowest}
-use Rattle.counter.specs.Places.{places, lengthGood, placesGood}
+use Rattle.counter.specs.Places.{settingA, lengthGood, placesGood}
 use Rattle.counter.specs.Map.{marked, offsetIn, offsetOf, pointerAt, pointerOf, reachable, inOrder, sound}
 use Rattle.counter.specs.Verdict.{answer, answerOf}
 use Rattle.counter.specs.Reading.{firstRead, nibbleIn, countIn, close, decide, weigh, examine, verdictOf}
@@ -50,7 +50,7 @@ chipA first second =
     ++ (0x80 ∷ 0x80 ∷ second ∷ 0x80 ∷ 0x80 ∷ first ∷ [])
 
 abbrev look : ℕ → ℕ → Question
-look first second = says (readOf two (places 1 25 128) (chipA first second))
+look first second = says (readOf two (settingA) (chipA first second))
 
 -- the cases
 abbrev pub bench : List Row

@@ -5,6 +5,7 @@ pub mod OwnCells
 pub mod TurnsAndCells
 pub mod Room
 pub mod StepChanges
+pub mod Written
 pub mod Ample
 pub mod ExactSteps
 pub mod SettingA

@@ -3,7 +3,7 @@
 --   allAsked                  what is done for such a slot: its own cell and every spare of its kind are asked
 --   Asked                     work that ends so
 --   all-asked, asked-then, asked-giving  it holds of that slot, of work behind other work, and with another answer
---   spare-asked               every spare is among those asked
+--   spare-asked, asked-each   every spare is among those asked
 --   slot-only                 storing a slot that ends in "no spare" names that slot, and comes to just that
 --   slot-roomless             storing a slot ends in "no spare" exactly where its cell and every spare of its kind
 --                             have life 0 and another byte
@@ -23,6 +23,7 @@ use Rattle.cells.specs.Chip.{Chip, Paired}
 use Rattle.cells.specs.Run.{Write, write, Run, run, still, _then_, _giving_}
 use Rattle.cells.specs.Put.{putAt}
 use Rattle.cells.specs.Log.{askedOf}
+use Rattle.cells.proofs.Logs.{asked-append}
 use Rattle.cells.proofs.Walks.{asks-each}
 use Rattle.cells.proofs.Puts.{Refuses, PutLaws, put-laws}
 use Rattle.counter.specs.declared.places.Places.{Places}
@@ -58,10 +59,10 @@ allAsked layout p k b s =
     (sparesOf (kindOf k) (gapAt layout p s))
     s
 
--- at the end of the work's log the byte b was asked of slot k's own cell and of every spare of its kind, in order; the spares are
--- counted, and each cell refuses the byte. Cell and spares are those of the map as the work leaves it, since nothing was changed by it
+-- at the end of the work's log the byte b was asked of slot k's own cell and of every spare of its kind, in order; tried counts at least
+-- these spares, and each cell refuses the byte. Cell and spares are those of the map as the work leaves it, since nothing was changed by it
 pub record Asked {A : Type 0} (layout : Layout) (p : Places) (k b : ℕ) (r : Run A) : Type 0 where
-  -- what was asked before, and the spares that were tried before
+  -- what was asked before, and the rest of what was tried
   pub earlier : List Write
   pub before : ℕ
   pub log : r .log ≡ earlier ++ (write (pointers layout p (r .after) k) b ∷ askedSpares k (gapAt layout p (r .after)) b)
@@ -95,6 +96,18 @@ pub spare-asked :
 spare-asked {g = g} k a b between spare =
     let j = free-walked (kindOf k) g a (spare-free between spare) in
     rw (j .2) at (asks-each (sparesOf (kindOf k) g) (wayOf (kindOf k)) (nextOf (kindOf k) g) b (j .0) (j .1))
+
+-- so work that ends so has asked every spare of the kind
+pub asked-each :
+    {A : Type 0} {layout : Layout} {p : Places} {k b : ℕ} {r : Run A} → Asked layout p k b r
+    → (a : ℕ) → Spare (kindOf k) (slots layout) p (pointers layout p (r .after)) a → 1 ≤ askedOf a (r .log)
+asked-each {layout = layout} {p = p} {k = k} {b = b} {r = r} x a spare =
+    let own = write (pointers layout p (r .after) k) b in
+    let spares = askedSpares k (gapAt layout p (r .after)) b in
+    let h = spare-asked k a b (between-map layout p (pointers layout p (r .after))) spare in
+    let h₁ = asked-append a a (x .earlier) (own ∷ spares) in
+    let h₂ = asked-append a a (own ∷ []) spares in
+    rw (x .log) (omega arith)
 
 module _ {layout : Layout} {p : Places} {s : Chip} (ready : Ready layout p s) (k : ℕ) (l : k < slots layout) (b : ℕ) where
   between : Between (slots layout) p (pointers layout p s) (gapAt layout p s)

@@ -4,8 +4,9 @@
 --   OpeningFull, opening-roomless
 --   SparesAsked               work that ends in asking every spare that pointers leave
 --   spares-giving             the same with another answer
+--   spares-each               every such spare was asked
 --   opening-tried             a first opening that is stopped so ends in asking those that the addresses taken so far leave
-use Prim.Native.Nat.{ℕ, zero, suc, _+_, _<_}
+use Prim.Native.Nat.{ℕ, zero, suc, _+_, _≤_, _<_}
 use mathlib.Core.Path.{_≡_, sym, ap, ap₂, _∙_}
 use mathlib.Core.Bool.{true≢false}
 use mathlib.Core.List.{List, [], _++_, append-nil, append-assoc}
@@ -18,7 +19,8 @@ use Rattle.code.specs.Codes.{codeOf}
 use Rattle.cells.specs.Chip.{Chip, Paired}
 use Rattle.cells.specs.Run.{Write, Run, run, still, _then_}
 use Rattle.cells.proofs.Writes.{kept-paired}
-use Rattle.cells.proofs.Logs.{within-kept}
+use Rattle.cells.specs.Log.{askedOf}
+use Rattle.cells.proofs.Logs.{asked-append, within-kept}
 use Rattle.cells.proofs.Puts.{Refuses}
 use Rattle.counter.specs.declared.places.Places.{Places}
 use Rattle.counter.specs.declared.spares.Gap.{Gap}
@@ -38,7 +40,7 @@ use Rattle.counter.proofs.Moves.{not-done}
 use Rattle.counter.proofs.Takes.{TakeLaws, take-landing, take-missing, take-laws}
 use Rattle.counter.proofs.WorkSteps.{take-none, opening-on, opening-ends}
 use Rattle.counter.proofs.Openings.{MapEnded, MapEnded.put, MapEnded.failed, map-laws}
-use Rattle.promises.proofs.Room.{take-roomless}
+use Rattle.promises.proofs.Room.{spare-asked, take-roomless}
 
 -- the addresses that the slots before k take in a first opening, as pointers
 abbrev pub takenTo : Places → Chip → ℕ → ℕ → ℕ
@@ -67,6 +69,15 @@ pub spares-giving :
     {A B : Type 0} {p : Places} {k : ℕ} {pointer : ℕ → ℕ} {r : Run A} (y : B) (tried : ℕ) → SparesAsked p k pointer r
     → SparesAsked p k pointer (run y (r .log) tried (r .after))
 spares-giving y tried x = record { earlier = x .earlier; log = x .log; bare = x .bare }
+
+-- so every such spare was asked
+pub spares-each :
+    {A : Type 0} {p : Places} {k : ℕ} {pointer : ℕ → ℕ} {r : Run A} → SparesAsked p k pointer r
+    → (a : ℕ) → Spare (kindOf k) k p pointer a → 1 ≤ askedOf a (r .log)
+spares-each {p = p} {k = k} {pointer = pointer} x a spare =
+    let h = spare-asked k a (codeOf 0) (between-gap k p pointer) spare in
+    let h₁ = asked-append a a (x .earlier) (askedSpares k (gapTo k p pointer) (codeOf 0)) in
+    rw (x .log) (omega arith)
 
 -- work behind other work
 spares-then :
@@ -130,7 +141,7 @@ spares-missed {p} {k} {pointer} {g} {s} between m =
     }
 
 -- where a taking ended so: the slots before it took their addresses, and then it asked every spare that they leave and changed nothing
-record Stop (n k j : ℕ) (g : Gap) (s : Chip) : Type 0 where
+record TakeStop (n k j : ℕ) (g : Gap) (s : Chip) : Type 0 where
   many : ℕ
   slot : j ≡ k + many
   inside : many < n
@@ -138,18 +149,18 @@ record Stop (n k j : ℕ) (g : Gap) (s : Chip) : Type 0 where
   after : takeFrom n k g s .after ≡ takeFrom many k g s .after
   asked : (p : Places) (pointer : ℕ → ℕ) → Listed k (takeFrom many k g s .answer .addresses) pointer → Between k p pointer g → SparesAsked p j pointer (takeFrom n k g s)
 
-take-only : (n k : ℕ) (g : Gap) (s : Chip) (j : ℕ) → Paired s → takeFrom n k g s .answer .work ≡ Stopped (NoSpare j) → Stop n k j g s
+take-only : (n k : ℕ) (g : Gap) (s : Chip) (j : ℕ) → Paired s → takeFrom n k g s .answer .work ≡ Stopped (NoSpare j) → TakeStop n k j g s
 take-only zero k g s j paired e = not-done (sym e ∙ ap (λ (r : Run Taken). r .answer .work) (take-none k g s))
 take-only (suc n) k g s j paired e = go (take-only n (k + 1)) (try-laws k g (codeOf 0) s paired .trying)
   where
     Later : Type 0
-    Later = (g : Gap) (s : Chip) (j : ℕ) → Paired s → takeFrom n (k + 1) g s .answer .work ≡ Stopped (NoSpare j) → Stop n (k + 1) j g s
+    Later = (g : Gap) (s : Chip) (j : ℕ) → Paired s → takeFrom n (k + 1) g s .answer .work ≡ Stopped (NoSpare j) → TakeStop n (k + 1) j g s
 
     -- it ended at a later slot
     there :
         (t : Landing k g (codeOf 0) s)
-        → Stop n (k + 1) j (narrow (kindOf k) (t .place) g) (trySpares k g (codeOf 0) s .after)
-        → Stop (suc n) k j g s
+        → TakeStop n (k + 1) j (narrow (kindOf k) (t .place) g) (trySpares k g (codeOf 0) s .after)
+        → TakeStop (suc n) k j g s
     there t x =
         let early = take-landing (x .many) k g s (t .place) (t .here) in
         let all = take-landing n k g s (t .place) (t .here) in
@@ -166,7 +177,7 @@ take-only (suc n) k g s j paired e = go (take-only n (k + 1)) (try-laws k g (cod
               (rw add-one (between-more between (t .place) (rw add-zero at (at 0 (omega arith))))))));
         }
 
-    go : Later → Trying k g (codeOf 0) s → Stop (suc n) k j g s
+    go : Later → Trying k g (codeOf 0) s → TakeStop (suc n) k j g s
     go later (missing t) =
         let none = take-none k g s in
         let all = take-missing n k g s (t .nowhere) in
@@ -208,11 +219,11 @@ module _ {layout : Layout} {p : Places} {s : Chip} (ready : Ready layout p s) wh
 
   module _ (k : ℕ) where
     -- where the taking ended
-    opening-stop : firstOpening layout p s .answer ≡ Stopped (NoSpare k) → Stop (slots layout) 0 k (wholeArea p) s
+    opening-stop : firstOpening layout p s .answer ≡ Stopped (NoSpare k) → TakeStop (slots layout) 0 k (wholeArea p) s
     opening-stop e = take-only (slots layout) 0 (wholeArea p) s k (ready .paired) (opening-taking k e)
 
     -- and what it asked there
-    stop-asked : (x : Stop (slots layout) 0 k (wholeArea p) s) → SparesAsked p k (takenTo p s (x .many)) taking
+    stop-asked : (x : TakeStop (slots layout) 0 k (wholeArea p) s) → SparesAsked p k (takenTo p s (x .many)) taking
     stop-asked x = x .asked p (takenTo p s (x .many)) (λ i l. ap (takenTo p s (x .many)) (zero-add i)) (between-none p (takenTo p s (x .many)))
 
     pub opening-roomless : (firstOpening layout p s .answer ≡ Stopped (NoSpare k)) ↔ OpeningFull layout p k s

@@ -21,7 +21,8 @@ use Rattle.counter.specs.declared.places.Places.{Places}
 use Rattle.counter.specs.declared.verdict.Answer.{Answer}
 use Rattle.counter.specs.Layout.{two}
 use Rattle.counter.specs.Slots.{kindOf, every, some, lowest}
-use Rattle.counter.specs.Places.{settingA, places, lengthGood, placesGood, livesGood, fitted}
+use Rattle.counter.specs.Places.{settingA, places, lengthGood, placesGood, livesGood}
+use Rattle.counter.specs.Inside.{fitted}
 use Rattle.counter.specs.Map.{marked, offsetIn, offsetOf, pointerAt, pointerOf, pointerBytes, reachable, inOrder, sound}
 use Rattle.counter.specs.Spares.{wholeArea, narrow, gapTo, gapOf, wayOf, nextOf, sparesOf}
 use Rattle.counter.specs.Verdict.{answerOf}

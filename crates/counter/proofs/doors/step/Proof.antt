@@ -1,5 +1,5 @@
 -- `doors::step` keeps its promise.
-use Prim.Native.Nat.{ℕ, _<_}
+use Prim.Native.Nat.{ℕ, _^_, _<_}
 use mathlib.Core.Path.{_≡_, sym, ap, _∙_}
 use native.Mathlib.Omega.{arith}
 use lib.IntN.{ℤ}
@@ -10,7 +10,7 @@ use Rattle.counter.specs.declared.verdict.Answer.{Answer}
 use Rattle.counter.specs.declared.verdict.Verdict.the-variants.{Good}
 use Rattle.counter.specs.Places.{places}
 use Rattle.counter.specs.Verdict.{outcome, outcomeOf}
-use Rattle.counter.specs.Doors.{chipVerdict, stepping, stepOf}
+use Rattle.counter.specs.Doors.{lastCount, chipVerdict, stepping, stepOf}
 use Rattle.counter.proofs.GoodVerdicts.{verdict-good}
 use Rattle.counter.proofs.DoorViews.{outcome-refused, chip-verdict, good-settled, step-unpaired, step-refused, step-last, step-on}
 use borrow.Author.Needs.{needs}
@@ -47,7 +47,7 @@ returns-2 c =
     ∙ outcome-refused (step-last two _ _ _ _ (good told) (c .before .if2 .taken))
 
 -- a count of 32 bits that is not the last
-below : {c : ℕ} → c < 4294967296 → (c ≡ 4294967295 → ⊥) → c < 4294967295
+below : {c : ℕ} → c < 2 ^ 32 → (c ≡ lastCount → ⊥) → c < lastCount
 below small other = omega arith
 
 advance-requires : tie.Need-advance-requires

@@ -5,10 +5,9 @@ use borrow.Author.Needs.{needs}
 use native.Mathlib.Omega.{arith}
 use Rattle.cells.specs.Chip.{chip}
 use Rattle.counter.specs.Layout.{two}
-use Rattle.counter.specs.Places.{fitted}
 use Rattle.counter.specs.Map.{mapIn, pointerOf, sound}
 use Rattle.counter.specs.Store.{store}
-use Rattle.counter.specs.Inside.{stopped}
+use Rattle.counter.specs.Inside.{fitted, stopped}
 use Rattle.counter.proofs.Behind.{behind-done, said-stopped}
 use Rattle.counter.proofs.StoreViews.{store-settled}
 use Rattle.counter.proofs.StoreCosts.{store-few}

@@ -8,7 +8,7 @@ use Rattle.cells.specs.Run.{plus}
 use Rattle.cells.proofs.Views.{plus-plus}
 use Rattle.cells.proofs.Puts.{put-few}
 use Rattle.counter.specs.Layout.{two}
-use Rattle.counter.specs.Places.{fitted}
+use Rattle.counter.specs.Inside.{fitted}
 use Rattle.counter.specs.Map.{sound}
 use Rattle.counter.proofs.SoundPointers.{test-sound}
 use Rattle.counter.proofs.Ready.{pointers, inside-cell}

@@ -14,10 +14,9 @@ use Rattle.cells.specs.Run.{Seen, view, plus}
 use Rattle.cells.proofs.Views.{plus-plus}
 use Rattle.counter.specs.declared.verdict.Work.{Work}
 use Rattle.counter.specs.declared.verdict.Work.the-variants.{Done}
-use Rattle.counter.specs.Places.{fitted}
 use Rattle.counter.specs.Map.{sound}
 use Rattle.counter.specs.Store.{slotCode, store}
-use Rattle.counter.specs.Inside.{stopped}
+use Rattle.counter.specs.Inside.{fitted, stopped}
 use Rattle.counter.specs.Layout.{two}
 use Rattle.counter.proofs.Ready.{pointers}
 use Rattle.counter.proofs.Fitted.{fitted-ready}

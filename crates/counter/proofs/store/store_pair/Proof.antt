@@ -10,10 +10,9 @@ use Rattle.cells.specs.Run.{seen, view}
 use Rattle.cells.proofs.Puts.{put-few}
 use Rattle.counter.specs.declared.verdict.Work.the-variants.{Done}
 use Rattle.counter.specs.Layout.{two}
-use Rattle.counter.specs.Places.{fitted}
 use Rattle.counter.specs.Map.{sound}
 use Rattle.counter.specs.Store.{storeSlot}
-use Rattle.counter.specs.Inside.{stopped}
+use Rattle.counter.specs.Inside.{fitted, stopped}
 use Rattle.counter.proofs.SoundPointers.{test-sound}
 use Rattle.counter.proofs.Ready.{pointers, inside-cell}
 use Rattle.counter.proofs.Fitted.{fitted-ready}
