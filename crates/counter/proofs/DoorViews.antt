@@ -1,7 +1,7 @@
 -- The outcomes of the doors, by what their pieces say of themselves.
 --   outcome-ending            of storing that ends a call
 --   outcome-refused           of a refusal that touched nothing
---   chip-verdict              a chip lent with its lives reads as its cells do
+--   chip-verdict, chip-examined  a chip lent with its lives reads as its cells do
 --   chip-fitted               and is fit to be opened, if they are unmarked
 --   settling, settling-good, settling-refused  what was read stored anew
 --   unopened, unopened-ready, ready-unopened  a chip not yet opened is ready; a ready one without a mark is not yet opened

@@ -1,8 +1,8 @@
 -- A byte put at a slot's cell, and moved to a spare if the put fails: what it keeps, what it changes, what it costs.
 --   gapAt, roomOf             the gap and the room that a chip's map leaves
---   Ended                     how storing can end
+--   Ended, not-done           how storing can end, and what stopped is not done
 --   Settles                   what such work comes to where it is done
---   SlotLaws                     the laws, given what the work may cost beside the spares it tries
+--   SlotLaws                  the laws, given what the work may cost beside the spares it tries
 --   move-laws, slot-laws      they hold of a move, and of a store of one slot
 --   tries, first              the spares tried, and the put at the slot's cell
 --   move-missing, move-landing  a move, by what the spares come to

@@ -1,9 +1,10 @@
 -- A first opening: what it keeps, what it changes.
---   PointsLaws, points-laws       addresses put as pointers, one slot after another
+--   MapEnded                  how putting the map can end
+--   PointsLaws, points-laws   addresses put as pointers, one slot after another
 --   MarkLaws, mark-laws       the mark put
---   MapLaws, map-laws           both, one behind the other
+--   MapLaws, map-laws         both, one behind the other
 --   Opened                    what a first opening comes to where it is done
---   OpeningLaws, opening-laws       the laws of a first opening
+--   OpeningLaws, opening-laws the laws of a first opening
 --   whole-inside              the whole area is the area
 --   zero-code                 the code of 0 is what every slot holds at count 0
 use Prim.Native.Nat.{ℕ, _%_, zero, suc, _+_, _≤_, _<_}

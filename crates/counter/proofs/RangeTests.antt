@@ -1,6 +1,6 @@
 -- Tests over a range of numbers, turned into facts and back.
---   both-hold, hold-both        both tests hold
---   one-holds                   one of the tests holds
+--   both-hold, hold-both      both tests hold
+--   one-holds                 one of the tests holds
 --   every-all, all-every      the test holds of each number below n
 --   every-not                 a number of which it does not hold
 --   none-some                 the test holds of no number below n

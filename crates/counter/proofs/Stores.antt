@@ -1,7 +1,8 @@
 -- A count stored: what it keeps, what it changes, what it costs.
 --   done-then, stopped-then   one piece of storing and then another
---   changes                   how many slots hold another byte than they are to hold
---   StoreLaws                    the laws of storing the n slots from k on
+--   changes, changes-same     how many slots hold another byte than they are to hold
+--   AllHeld                   what such a store comes to where it is done
+--   StoreLaws                 the laws of storing the n slots from k on
 --   from-laws, store-laws     they hold of storing so
 use Prim.Native.Nat.{ℕ, zero, suc, _+_, _≤_, _<_}
 use mathlib.Core.Path.{_≡_, refl, sym, ap, ap₂, _∙_}

@@ -1,8 +1,9 @@
 -- Addresses taken in a first opening: what it keeps, what it changes.
 --   InGap                     an address lies in a gap
 --   narrow-inside, narrow-other  what a free address leaves of a gap lies in it, and is another
+--   take-landing, take-missing  a taking, by what the spares of its first slot come to
 --   AllTaken                  what the taking comes to where it is done
---   TakeLaws, take-laws          the laws of taking addresses for the n slots from k on
+--   TakeLaws, take-laws       the laws of taking addresses for the n slots from k on
 use Prim.Native.Nat.{ℕ, zero, suc, _+_, _≤_, _<_}
 use mathlib.Core.Path.{_≡_, refl, ap, _∙_}
 use mathlib.Core.List.{[], _∷_}

@@ -1,5 +1,6 @@
 -- Refusal 8 of a door comes exactly where the turn of the slot that it names comes, and no cell takes that slot's byte (condition 2).
 --   Roomless                  a call is refused 8, and names the slot
+--   TwoFull                   one of the two stores of a step
 --   StepFull, step-roomless   a step
 --   StepAsked, step-tried     which has asked every one of those cells, at the end of its log
 --   OpenFull, open-roomless   an opening
