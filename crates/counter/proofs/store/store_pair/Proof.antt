@@ -77,7 +77,7 @@ store-at-requires : tie.Need-store-at-requires
 store-at-requires c κs =
     let then = c .before .before in
     let fit = next-fit then in
-    (fit .0, fit .1, omega arith, fit .2, put-few _ _ _ (held then .put .ensures))
+    (fit .0, fit .1, omega arith, fit .2, omega (arith, put-few _ _ _ (held then .put .ensures)))
 
 returns : tie.Need-returns
 returns c =
