@@ -25,13 +25,12 @@ typedef struct {
     uint64_t archive, c;
 } figures;
 
-static void same(lyre_answer one, lyre_answer other)
+/* The fields of an answer fill it, so that its bytes may be compared. */
+static void same(const void *one, const void *other, size_t size, uint32_t code)
 {
-    if (one.code == 0 && one.code == other.code && one.count == other.count && one.lag == other.lag &&
-        one.place == other.place && one.writes == other.writes && one.tried == other.tried &&
-        memcmp(&theirs, &ours, sizeof ours) == 0)
+    if (code == 0 && memcmp(one, other, size) == 0 && memcmp(&theirs, &ours, sizeof ours) == 0)
         return;
-    printf("the archive and fast.c differ, or a call was refused: codes %" PRIu32 " and %" PRIu32 "\n", one.code, other.code);
+    printf("the archive and fast.c differ, or a call was refused: the archive's code is %" PRIu32 "\n", code);
     exit(1);
 }
 
@@ -41,7 +40,7 @@ static figures write_both(writing_door *archive, writing_door *c, places at)
     figures figures;
     figures.archive = count_writing(archive, theirs.image, theirs.lives, at, &one);
     figures.c = count_writing(c, ours.image, ours.lives, at, &other);
-    same(one, other);
+    same(&one, &other, sizeof one, one.code);
     return figures;
 }
 
@@ -57,11 +56,11 @@ static figures step_both(places at)
 
 static figures read_both(places at)
 {
-    lyre_answer one, other;
+    lyre_read_answer one, other;
     figures figures;
     figures.archive = count_reading(lyre_read, theirs.image, at, &one);
     figures.c = count_reading(fast_read, ours.image, at, &other);
-    same(one, other);
+    same(&one, &other, sizeof one, one.code);
     return figures;
 }
 
@@ -110,6 +109,16 @@ static void worn_row(void)
     row("step, setting A, pointers alike modulo 64", stepped, 16);
 }
 
+/* Bit 0 of copy 1's nibble 0 is wrong, and bit 7 of copy 2's nibble 7. */
+static void mended_row(void)
+{
+    lay_blank();
+    open_both(setting_a);
+    theirs.image[128] ^= 0x01, theirs.image[34] ^= 0x80;
+    memcpy(ours.image, theirs.image, sizeof ours.image);
+    row("read, setting A, two cells mended", read_both(setting_a), 1);
+}
+
 static void setting_a_rows(uint64_t steps)
 {
     figures stepped = {0}, read = {0};
@@ -132,6 +141,7 @@ static void setting_a_rows(uint64_t steps)
     theirs.lives[128] = ours.lives[128] = 0;
     row("step, setting A, one cell moved", step_both(setting_a), 1);
     worn_row();
+    mended_row();
 }
 
 /* The mean of the first sixteen steps, which touch the cells of two nibbles. */

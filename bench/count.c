@@ -36,7 +36,7 @@ static __attribute__((noinline)) uint64_t writing(writing_door *door, uint8_t *i
     return instructions;
 }
 
-static __attribute__((noinline)) uint64_t reading(reading_door *door, const uint8_t *image, places at, lyre_answer *answer)
+static __attribute__((noinline)) uint64_t reading(reading_door *door, const uint8_t *image, places at, lyre_read_answer *answer)
 {
     instructions = 0;
     trap_on();
@@ -56,8 +56,9 @@ void count_begin(void)
     uint8_t image[1];
     uint32_t lives[1];
     lyre_answer answer;
+    lyre_read_answer read_answer;
     around_writing = writing(door_that_returns, image, lives, (places){0}, &answer) - 1;
-    around_reading = reading((reading_door *)(void *)door_that_returns, image, (places){0}, &answer) - 1;
+    around_reading = reading((reading_door *)(void *)door_that_returns, image, (places){0}, &read_answer) - 1;
 }
 
 uint64_t count_writing(writing_door *door, uint8_t *image, uint32_t *lives, places at, lyre_answer *answer)
@@ -65,7 +66,7 @@ uint64_t count_writing(writing_door *door, uint8_t *image, uint32_t *lives, plac
     return writing(door, image, lives, at, answer) - around_writing;
 }
 
-uint64_t count_reading(reading_door *door, const uint8_t *image, places at, lyre_answer *answer)
+uint64_t count_reading(reading_door *door, const uint8_t *image, places at, lyre_read_answer *answer)
 {
     return reading(door, image, at, answer) - around_reading;
 }

@@ -8,7 +8,7 @@
 #include "../include/lyre.h"
 
 typedef lyre_answer writing_door(uint8_t *image, size_t n, uint32_t *lives, size_t lives_n, size_t m, size_t s, size_t e);
-typedef lyre_answer reading_door(const uint8_t *image, size_t n, size_t m, size_t s, size_t e);
+typedef lyre_read_answer reading_door(const uint8_t *image, size_t n, size_t m, size_t s, size_t e);
 
 typedef struct {
     size_t n, m, s, e;
@@ -18,6 +18,6 @@ void count_begin(void);
 
 /* Call the door once and give its instructions, from its first to its return, both included. */
 uint64_t count_writing(writing_door *door, uint8_t *image, uint32_t *lives, places at, lyre_answer *answer);
-uint64_t count_reading(reading_door *door, const uint8_t *image, places at, lyre_answer *answer);
+uint64_t count_reading(reading_door *door, const uint8_t *image, places at, lyre_read_answer *answer);
 
 #endif

@@ -33,7 +33,7 @@ static const uint8_t readings[256] = {
     0x1E, 0x20, 0x20, 0x16, 0x20, 0x1B, 0x1D, 0x20, 0x0E, 0x1E, 0x1E, 0x20, 0x1E, 0x20, 0x20, 0x1F,
 };
 
-enum { not_clean = 0x30, lost = 0x20 };
+enum { not_clean = 0x30, mended = 0x10, lost = 0x20 };
 
 /* The highest High and the lowest Low pointer; the spares lie between them. */
 typedef struct {
@@ -135,11 +135,23 @@ static inline uint32_t count_of(uint32_t word)
     return word ^ word >> 16;
 }
 
-static aside lyre_answer read_damaged(const uint8_t *image, const uint8_t *map)
+static inline void count_mended(uint32_t *bits, uint8_t byte, uint32_t reading)
+{
+    if (reading & mended)
+        bits[__builtin_ctz(byte ^ codes[reading & 15])]++;
+}
+
+/* Where there are bits, each mended cell is counted in them. */
+static inline lyre_answer weigh(const uint8_t *image, const uint8_t *map, uint32_t *bits)
 {
     uint32_t word1 = 0, word2 = 0;
     for (unsigned nibble = 0; nibble < 8; nibble++) {
-        uint32_t one = readings[image[pointer_of(map, 0, nibble)]], other = readings[image[pointer_of(map, 1, nibble)]];
+        uint8_t in1 = image[pointer_of(map, 0, nibble)], in2 = image[pointer_of(map, 1, nibble)];
+        uint32_t one = readings[in1], other = readings[in2];
+        if (bits != NULL) {
+            count_mended(bits, in1, one);
+            count_mended(bits, in2, other);
+        }
         if (one == lost) {
             if (other == lost)
                 return (lyre_answer){.code = 5, .place = nibble};
@@ -154,6 +166,22 @@ static aside lyre_answer read_damaged(const uint8_t *image, const uint8_t *map)
     if (lag != 0 && lag != 1)
         return (lyre_answer){.code = 6, .lag = lag};
     return (lyre_answer){.count = count_of(word1), .lag = lag};
+}
+
+static aside lyre_answer read_damaged(const uint8_t *image, const uint8_t *map)
+{
+    return weigh(image, map, NULL);
+}
+
+static aside lyre_read_answer read_mended(const uint8_t *image, const uint8_t *map)
+{
+    lyre_read_answer answer = {0};
+    lyre_answer found = weigh(image, map, answer.bit);
+    if (found.code != 0)
+        return (lyre_read_answer){.code = found.code, .lag = found.lag, .place = found.place};
+    answer.count = found.count;
+    answer.lag = found.lag;
+    return answer;
 }
 
 /* True, with the count, when every cell is clean and the copies are equal: then storing that count would write nothing. */
@@ -318,18 +346,18 @@ lyre_answer fast_open(uint8_t *image, size_t n, uint32_t *lives, size_t lives_n,
     return (lyre_answer){.count = count};
 }
 
-lyre_answer fast_read(const uint8_t *image, size_t n, size_t m, size_t s, size_t e)
+lyre_read_answer fast_read(const uint8_t *image, size_t n, size_t m, size_t s, size_t e)
 {
     ends ends;
     uint32_t count;
     if (unusual(n - 41 > 4096 - 41))
-        return refuse(1);
+        return (lyre_read_answer){.code = 1};
     uint32_t code = check(image, n, m, s, e, &ends);
     if (unusual(code != 0))
-        return refuse(code);
+        return (lyre_read_answer){.code = code};
     if (unusual(!read_settled(image, image + m, &count)))
-        return read_damaged(image, image + m);
-    return (lyre_answer){.count = count};
+        return read_mended(image, image + m);
+    return (lyre_read_answer){.count = count};
 }
 
 lyre_answer fast_step(uint8_t *image, size_t n, uint32_t *lives, size_t lives_n, size_t m, size_t s, size_t e)

@@ -6,7 +6,7 @@
 #include "../include/lyre.h"
 
 lyre_answer fast_open(uint8_t *image, size_t n, uint32_t *lives, size_t lives_n, size_t m, size_t s, size_t e);
-lyre_answer fast_read(const uint8_t *image, size_t n, size_t m, size_t s, size_t e);
+lyre_read_answer fast_read(const uint8_t *image, size_t n, size_t m, size_t s, size_t e);
 lyre_answer fast_step(uint8_t *image, size_t n, uint32_t *lives, size_t lives_n, size_t m, size_t s, size_t e);
 lyre_part fast_map_part(const uint8_t *image, size_t n, size_t m, size_t s, size_t e, uint32_t copy);
 

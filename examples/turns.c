@@ -13,7 +13,7 @@ int main(void)
     uint32_t refused = lyre_open(image, 129, lives, 129, 1, 25, 128).code;
     for (int turn = 0; turn < 3 && refused == 0; turn++)
         refused = lyre_step(image, 129, lives, 129, 1, 25, 128).code;
-    lyre_answer answer = lyre_read(image, 129, 1, 25, 128);
+    lyre_read_answer answer = lyre_read(image, 129, 1, 25, 128);
     printf("count %u\n", answer.count);
     return refused != 0 || answer.code != 0;
 }

@@ -24,7 +24,7 @@
 extern "C" {
 #endif
 
-/* The number in `code`. Where a refusal says no more, place, count, lag, writes and tried are 0, and no cell or life changed.
+/* The number in `code`. Where a refusal says no more, all else in the answer is 0, and no cell or life changed.
     0  good
     1  n is outside 41..4096, or lives_n is not n
     2  the places m, s and e are not good ones
@@ -51,6 +51,18 @@ typedef struct {
     uint64_t tried;  /* spare cells tried in this call; 0 in a first opening */
 } lyre_answer;
 
+/* What lyre_read answers: the fields of lyre_answer, and behind them which bits were mended. A cell was mended where it holds a
+   byte that is one bit from a code; it is read as that code. */
+typedef struct {
+    uint32_t code;
+    uint32_t count;
+    int64_t lag;
+    uint64_t place;
+    uint64_t writes; /* 0, as is tried: a read writes nothing */
+    uint64_t tried;
+    uint32_t bit[8]; /* bit[i]: of the sixteen data cells, how many were mended in bit i, 0 being the lowest; 0 on a refusal */
+} lyre_read_answer;
+
 typedef struct {
     uint32_t code;   /* 0, or refusal 1, 2, 3, 4 or 16 */
     uint64_t start;  /* offset in the image of the copy's cells in the map; 0 on a refusal */
@@ -65,8 +77,8 @@ typedef struct {
    expected, call lyre_read first, and do not open on refusal 3. */
 lyre_answer lyre_open(uint8_t *image, size_t n, uint32_t *lives, size_t lives_n, size_t m, size_t s, size_t e);
 
-/* Reads the count and writes nothing. */
-lyre_answer lyre_read(const uint8_t *image, size_t n, size_t m, size_t s, size_t e);
+/* Reads the count, and says which bits were mended; writes nothing. */
+lyre_read_answer lyre_read(const uint8_t *image, size_t n, size_t m, size_t s, size_t e);
 
 /* Settles the count that is there and stores one more. After refusal 8 or 9 call lyre_read: the step may have counted. */
 lyre_answer lyre_step(uint8_t *image, size_t n, uint32_t *lives, size_t lives_n, size_t m, size_t s, size_t e);

@@ -211,6 +211,15 @@ static void damage_data(void)
     }
 }
 
+/* A weak data line: one bit is wrong in many cells. */
+static void weaken_line(void)
+{
+    uint8_t bit = (uint8_t)(1u << below(8));
+    for (size_t pointer = 0; pointer < 16; pointer++)
+        if (chance(50))
+            image[pointers[pointer]] ^= bit;
+}
+
 static void damage_map(void)
 {
     size_t pointer = below(16), other = below(16);
@@ -316,6 +325,8 @@ static void draw_chip(void)
         write_count(1, draw_second_count(count));
         if (chance(35))
             damage_data();
+        if (chance(6))
+            weaken_line();
         if (chance(12))
             damage_map();
         if (chance(8))

@@ -26,7 +26,7 @@ static uint8_t image_before[largest];
 static uint32_t lives_before[largest];
 
 static const char *const door_names[doors] = {"open", "read", "step", "map part"};
-static uint64_t met[doors][codes_counted], calls;
+static uint64_t met[doors][codes_counted], calls, reads_mended;
 static uint64_t seed, case_number;
 static bool in_worked = true;
 
@@ -156,32 +156,53 @@ static void compare_chips(door door, uint32_t code)
         differ("cells or lives touched", door);
 }
 
+static void compare_answers(door door, second_answer mine, second_answer other)
+{
+    if (mine.code == other.code && mine.count == other.count && mine.lag == other.lag && mine.place == other.place &&
+        mine.writes == other.writes && mine.tried == other.tried)
+        return;
+    show("second", mine);
+    show("archive", other);
+    differ("answer", door);
+}
+
+#define ANSWER(answer) \
+    ((second_answer){(answer).code, (answer).count, (answer).lag, (answer).place, (answer).writes, (answer).tried})
+
+second_read_answer call_read(void)
+{
+    remember();
+    second_read_answer mine = second_read(ours.image, lent.n, lent.m, lent.s, lent.e);
+    lyre_read_answer other = lyre_read(theirs.image, lent.n, lent.m, lent.s, lent.e);
+    compare_answers(door_read, mine.answer, ANSWER(other));
+    uint32_t mended = 0;
+    for (int bit = 0; bit < 8; bit++) {
+        mended += mine.bit[bit];
+        if (mine.bit[bit] == other.bit[bit])
+            continue;
+        printf("bit %d: second %" PRIu32 ", archive %" PRIu32 "\n", bit, mine.bit[bit], other.bit[bit]);
+        differ("counts of mended bits", door_read);
+    }
+    reads_mended += mended != 0;
+    compare_chips(door_read, mine.answer.code);
+    return mine;
+}
+
 second_answer call(door door)
 {
-    second_answer mine = {0};
-    lyre_answer answer = {0};
+    if (door == door_read)
+        return call_read().answer;
+    second_answer mine;
+    lyre_answer other;
     remember();
-    switch (door) {
-    case door_open:
+    if (door == door_open) {
         mine = second_open(ours.image, lent.n, ours.lives, lent.lives_n, lent.m, lent.s, lent.e);
-        answer = lyre_open(theirs.image, lent.n, theirs.lives, lent.lives_n, lent.m, lent.s, lent.e);
-        break;
-    case door_step:
+        other = lyre_open(theirs.image, lent.n, theirs.lives, lent.lives_n, lent.m, lent.s, lent.e);
+    } else {
         mine = second_step(ours.image, lent.n, ours.lives, lent.lives_n, lent.m, lent.s, lent.e);
-        answer = lyre_step(theirs.image, lent.n, theirs.lives, lent.lives_n, lent.m, lent.s, lent.e);
-        break;
-    default:
-        mine = second_read(ours.image, lent.n, lent.m, lent.s, lent.e);
-        answer = lyre_read(theirs.image, lent.n, lent.m, lent.s, lent.e);
+        other = lyre_step(theirs.image, lent.n, theirs.lives, lent.lives_n, lent.m, lent.s, lent.e);
     }
-    second_answer other = {.code = answer.code, .count = answer.count, .lag = answer.lag, .place = answer.place,
-                           .writes = answer.writes, .tried = answer.tried};
-    if (mine.code != other.code || mine.count != other.count || mine.lag != other.lag || mine.place != other.place ||
-        mine.writes != other.writes || mine.tried != other.tried) {
-        show("second", mine);
-        show("archive", other);
-        differ("answer", door);
-    }
+    compare_answers(door, mine, ANSWER(other));
     compare_chips(door, mine.code);
     return mine;
 }
@@ -218,6 +239,7 @@ static void print_met(void)
             printf("%12" PRIu64, met[each][code]);
         printf("\n");
     }
+    printf("reads with a mended cell: %" PRIu64 "\n", reads_mended);
 }
 
 int main(int count_of_words, char **words)

@@ -21,6 +21,7 @@ void lend(places at, const uint8_t *image, const uint32_t *lives);
 
 /* Calls the door on both chips and compares; the answer is that of both. */
 second_answer call(door door);
+second_read_answer call_read(void);
 second_part call_map_part(uint32_t copy);
 
 /* The chip between two calls. */

@@ -49,7 +49,7 @@ static second_answer open_it(void)
 
 static second_answer read_it(void)
 {
-    return second_read(image, n, map, start, end);
+    return second_read(image, n, map, start, end).answer;
 }
 
 static second_answer step_it(void)
@@ -162,10 +162,62 @@ static void wear(void)
     say("cell 37 worn, read", read_it(), none, none);
 }
 
+/* Document 02, P1. */
+static void say_mended(const char *name)
+{
+    second_read_answer read = second_read(image, n, map, start, end);
+    print_answer(name, read.answer);
+    for (int bit = 0; bit < 8; bit++)
+        printf(" bit%d=%" PRIu32, bit, read.bit[bit]);
+    printf("\n");
+}
+
+/* Bytes in the two cells of nibble 0. */
+static void hold(uint8_t in1, uint8_t in2)
+{
+    opened_a();
+    image[128] = in1;
+    image[125] = in2;
+}
+
+static void say_held(uint8_t in1, uint8_t in2, const char *name)
+{
+    hold(in1, in2);
+    say_mended(name);
+}
+
+static void mended(void)
+{
+    static const size_t cells1[8] = {128, 127, 126, 25, 26, 27, 28, 29}, cells2[8] = {125, 124, 123, 30, 31, 32, 33, 34};
+    say_held(0x80, 0x80, "P1 80, read");
+    say_held(0x81, 0x80, "P1 81, read");
+    say_held(0x06, 0x06, "P1 06 06, read");
+    say_held(0x06, 0x0F, "P1 06 0F, read");
+    say_held(0xFF, 0xFF, "P1 FF FF, read");
+    say_held(0x81, 0x01, "P1 81 01, read");
+    say_held(0x01, 0x81, "P1 01 81, read");
+    say_held(0xCA, 0xB1, "P1 CA B1, read");
+    say_held(0xB1, 0xCA, "P1 B1 CA, read");
+    hold(0xCA, 0xB1);
+    image[29] = image[34] = 0x01;
+    say_mended("P1 CA B1, nibble 7 lost, read");
+    hold(0xCA, 0xB1);
+    image[1] = 0xFF;
+    say_mended("P1 CA B1, mark gone, read");
+    opened_a();
+    for (int nibble = 0; nibble < 8; nibble++)
+        image[cells1[nibble]] ^= (uint8_t)(1 << nibble);
+    say_mended("P1 each bit, read");
+    for (int nibble = 0; nibble < 8; nibble++)
+        image[cells1[nibble]] = image[cells2[nibble]] = 0xC0;
+    say_mended("P1 all C0, read");
+}
+
 int main(void)
 {
     bench_list();
     marks_and_lags();
     wear();
+    mended();
     return 0;
 }

@@ -215,6 +215,18 @@ static second_answer read_count(const uint8_t *image, size_t m)
     return (second_answer){.count = count1, .lag = lag};
 }
 
+/* Document 02, P1: of the sixteen cells each that is a code with one bit wrong counts in that bit. */
+static void count_mended(const uint8_t *image, size_t m, uint32_t *bit)
+{
+    for (int pointer = 0; pointer < all_pointers; pointer++) {
+        uint8_t byte = image[address_in_map(image, m, pointer)];
+        for (int d = 0; d < 16; d++)
+            for (int wrong = 0; wrong < 8; wrong++)
+                if ((byte ^ (1 << wrong)) == codes[d])
+                    bit[wrong] += 1;
+    }
+}
+
 /* [Storing, opening, stepping] */
 
 /* Puts a pointer in the map, low byte first. */
@@ -289,7 +301,7 @@ second_answer second_open(uint8_t *image, size_t n, uint32_t *lives, size_t live
     return answer;
 }
 
-second_answer second_read(const uint8_t *image, size_t n, size_t m, size_t s, size_t e)
+static second_answer read_chip(const uint8_t *image, size_t n, size_t m, size_t s, size_t e)
 {
     if (n < 41 || n > 4096)
         return refuse(1, 0);
@@ -302,11 +314,19 @@ second_answer second_read(const uint8_t *image, size_t n, size_t m, size_t s, si
     return read_count(image, m);
 }
 
+second_read_answer second_read(const uint8_t *image, size_t n, size_t m, size_t s, size_t e)
+{
+    second_read_answer read = {.answer = read_chip(image, n, m, s, e)};
+    if (read.answer.code == 0)
+        count_mended(image, m, read.bit);
+    return read;
+}
+
 second_answer second_step(uint8_t *image, size_t n, uint32_t *lives, size_t lives_n, size_t m, size_t s, size_t e)
 {
     if (n < 41 || n > 4096 || lives_n != n)
         return refuse(1, 0);
-    second_answer answer = second_read(image, n, m, s, e);
+    second_answer answer = read_chip(image, n, m, s, e);
     if (answer.code != 0)
         return answer;
     if (answer.count == UINT32_MAX)

@@ -58,6 +58,31 @@ static void readings(void)
     expect(answer.code == 6 && answer.lag == -4294967295, "0 over 4294967295 is no lag of 1");
 }
 
+/* Document 02, P1: setting A opened with other bytes in the two cells of nibble 0, and how many cells were mended in a bit. */
+static void mended(void)
+{
+    static const struct {
+        uint8_t in1, in2;
+        uint32_t code, count, bit[8];
+    } tries[] = {
+        {0x80, 0x80, 0, 0, {0}},              {0x81, 0x80, 0, 0, {1}},
+        {0x06, 0x06, 0, 1, {2}},              {0x06, 0x0F, 0, 1, {1, 0, 0, 1}},
+        {0xFF, 0xFF, 0, 10, {[7] = 2}},       {0x81, 0x01, 0, 0, {1}},
+        {0x01, 0x81, 0, 0, {1}},              {0xCA, 0xB1, 0, 5, {1, 1}},
+        {0xB1, 0xCA, 6, 0, {0}},              {0x01, 0x01, 5, 0, {0}},
+    };
+    begin(27);
+    for (size_t i = 0; i < sizeof tries / sizeof *tries; i++) {
+        open_a();
+        set_cell(128, tries[i].in1);
+        set_cell(125, tries[i].in2);
+        second_read_answer read = call_read();
+        expect(read.answer.code == tries[i].code && read.answer.count == tries[i].count &&
+                   memcmp(read.bit, tries[i].bit, sizeof read.bit) == 0,
+               "the bits that were mended");
+    }
+}
+
 static void steps(void)
 {
     begin(14);
@@ -196,4 +221,5 @@ void worked_cases(void)
     moves();
     look();
     wear();
+    mended();
 }

@@ -48,6 +48,22 @@ static void print_answer(lyre_answer answer)
            answer.place, answer.writes, answer.tried);
 }
 
+static lyre_read_answer read_it(void)
+{
+    return lyre_read(image, n, m, s, e);
+}
+
+static void print_read(lyre_read_answer read)
+{
+    print_answer((lyre_answer){read.code, read.count, read.lag, read.place, read.writes, read.tried});
+}
+
+static void print_bits(lyre_read_answer read)
+{
+    for (int bit = 0; bit < 8; bit++)
+        printf(" %" PRIu32, read.bit[bit]);
+}
+
 static void print_part(uint32_t copy)
 {
     lyre_part part = lyre_map_part(image, n, m, s, e, copy);
@@ -72,6 +88,21 @@ static void print_codes(void)
         codes[count ^ count / 2] = image[128];
     for (int nibble = 0; nibble < 16; nibble++)
         printf(" %02X", codes[nibble]);
+}
+
+/* Of all bytes in one data cell, how many were mended in each bit. */
+static void print_mended(void)
+{
+    unsigned mended[8] = {0};
+    for (int byte = 0; byte < 256; byte++) {
+        open_setting_a();
+        image[128] = (uint8_t)byte, image[125] = 0x01;
+        lyre_read_answer read = read_it();
+        for (int bit = 0; bit < 8; bit++)
+            mended[bit] += read.bit[bit];
+    }
+    for (int bit = 0; bit < 8; bit++)
+        printf(" %u", mended[bit]);
 }
 
 /* With copy 2's nibble lost an open rewrites that one cell, and the byte itself where it was mended. */
@@ -164,7 +195,9 @@ static bool do_word(const char *word)
     else if (strcmp(word, "step") == 0)
         print_answer(step_it());
     else if (strcmp(word, "read") == 0)
-        print_answer(lyre_read(image, n, m, s, e));
+        print_read(read_it());
+    else if (strcmp(word, "mended") == 0)
+        print_bits(read_it());
     else if (strcmp(word, "call") == 0)
         printf(" code count lag place writes tried");
     else if (strcmp(word, "part") == 0)
@@ -179,6 +212,8 @@ static bool do_word(const char *word)
         print_codes();
     else if (strcmp(word, "bytes") == 0)
         print_readings();
+    else if (strcmp(word, "bits") == 0)
+        print_mended();
     else
         fail("no such word", word);
     return true;

@@ -13,18 +13,20 @@ lay() {
 sed 's:^ *//.*::' "$root/crates/lyre/src/lib.rt" |
     lay '#\[repr\(C\)\] pub struct [^}]*\}|#\[no_mangle\] pub extern "C" fn [^)]*\)-> [A-Za-z]+' |
     sed -E '
+        s/([a-z])([A-Z])/\1_\2/g
         s/#\[repr\(C\)\] pub struct (\w+)\{(.*)\}/typedef struct{\2} lyre_\L\1;/
         s/#\[no_mangle\] pub extern "C" fn (\w+)\((.*)\)-> (\w+)/lyre_\L\3\E \1(\2);/
         s/(\w+): &mut \[u(8|32)\]/uint\2_t *\1, size_t \1_n/g
         s/(\w+): &\[u(8|32)\]/const uint\2_t *\1, size_t \1_n/g
         s/image_n/n/
+        s/(pub )?(\w+): \[u32; ?([0-9]+)\]/uint32_t \2[\3]/g
         s/(pub )?(\w+): u(32|64)/uint\3_t \2/g
         s/(pub )?(\w+): i64/int64_t \2/g
         s/(\w+): usize/size_t \1/g
         /^typedef/s/, ?/;/g' >"$work/source"
 sed -E '/^#/d; s:/\*[^*]*\*/::g; /\/\*/,/\*\//d' "$root/include/lyre.h" |
     lay 'typedef struct\{[^}]*\} \w+;|[^;{}]*\([^)]*\);' >"$work/header"
-[ "$(wc -l <"$work/source")" -eq 6 ] || { echo 'header: not six exports in the source'; cat "$work/source"; exit 1; }
+[ "$(wc -l <"$work/source")" -eq 7 ] || { echo 'header: not seven exports in the source'; cat "$work/source"; exit 1; }
 diff "$work/source" "$work/header" || { echo 'header: lyre.h (>) is not what the source exports (<)'; exit 1; }
 
 $compiler -fsyntax-only -x c - <<C
@@ -37,6 +39,14 @@ AT(lyre_answer, place, 16);
 AT(lyre_answer, writes, 24);
 AT(lyre_answer, tried, 32);
 _Static_assert(sizeof(lyre_answer) == 40, "lyre_answer");
+AT(lyre_read_answer, code, 0);
+AT(lyre_read_answer, count, 4);
+AT(lyre_read_answer, lag, 8);
+AT(lyre_read_answer, place, 16);
+AT(lyre_read_answer, writes, 24);
+AT(lyre_read_answer, tried, 32);
+AT(lyre_read_answer, bit, 40);
+_Static_assert(sizeof(lyre_read_answer) == 72, "lyre_read_answer");
 AT(lyre_part, code, 0);
 AT(lyre_part, start, 8);
 AT(lyre_part, length, 16);

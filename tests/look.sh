@@ -1,5 +1,5 @@
 #!/usr/bin/env bash
-# tests/look.sh: holds ./look to document 01 ("What comes back", "Measured on the bench") on images of many
+# tests/look.sh: holds ./look to document 01 ("What comes back", "Measured on the bench") and document 02 (P1) on images of many
 # lengths and readings, and on inputs that are no image. Prints what differs; exits 1 if anything did.
 set -u
 root=$(dirname -- "$(dirname -- "$(readlink -f -- "$0")")")
@@ -15,12 +15,17 @@ says() {
     failed=1
 }
 
-# answer CODE COUNT LAG PLACE: the four lines
+# answer CODE COUNT LAG PLACE [BIT..]: the twelve lines; the bits not given are 0
 answer() {
-    printf 'code=%s\ncount=%s\nlag=%s\nplace=%s\n.' "$@"
+    printf 'code=%s\ncount=%s\nlag=%s\nplace=%s\n' "${@:1:4}"
+    for bit in 0 1 2 3 4 5 6 7; do
+        at=$((bit + 5))
+        echo "bit$bit=${!at:-0}"
+    done
+    printf .
 }
 
-# looks WHAT CODE COUNT LAG PLACE: at the image $work/image
+# looks WHAT CODE COUNT LAG PLACE [BIT..]: at the image $work/image
 looks() {
     says "$1" "$("$root/look" "$work/image"; printf .)" "$(answer "${@:2}")"
 }
@@ -62,6 +67,18 @@ with 128 80 125 80 29 34; looks 'the greatest lag' 6 0 4294967295 0
 with 128 80 125 80 29 34 34 34; looks 'the greatest count' 0 4294967295 0 0
 with 29 01 34 01; looks 'nibble 7 lost' 5 0 0 7
 
+# which bits were mended; 19 is the code that the example holds, 80 that of its other cells
+with 128 18; looks 'bit 0' 0 3 0 0 1
+with 125 99; looks 'bit 7, copy 2' 0 3 0 0 0 0 0 0 0 0 0 1
+with 128 18 125 01; looks 'lent to copy 2' 0 3 0 0 1
+with 128 09 125 11 34 88; looks 'bits 4, 3 and 3' 0 3 0 0 0 0 0 2 1
+with 128 CA 125 B3; looks 'lag 1' 0 5 1 0 1
+with 128 CA 125 19; looks 'counts of refusal 6' 6 0 2 0
+with 128 18 29 01 34 01; looks 'counts of refusal 5' 5 0 0 7
+with 128 18 9 1A; looks 'counts of refusal 4' 4 0 0 0
+for at in 25 26 27 28 29 30 31 32 33 34 123 124 126 127; do set -- "$@" $at A0; done
+with "$@" 128 39 125 39; looks 'all cells in bit 5' 0 3 0 0 0 0 0 0 0 16
+
 # the example as it stands, on standard input, from another folder, by a name of its own
 says 'the example' "$("$root/look" "$example"; printf .)" "$(cat "$root/examples/setting-a.txt"; printf .)"
 says 'the example in the crate' "$(cmp "$example" "$root/crates/look/stdin" 2>&1)" ''
@@ -75,5 +92,5 @@ says 'a link' "$(cd "$work" && ln -s "$root/look" 'a name' && './a name' 'a chip
 refused 'a missing file' "$work/missing"
 refused 'a folder' "$work"
 
-[ $failed -eq 0 ] && echo 'look: as document 01 says'
+[ $failed -eq 0 ] && echo 'look: as the documents say'
 exit $failed

@@ -2,6 +2,7 @@
 // costs the check of a case far less than lent cells and lives do.
 ghost use Prim.Native.Nat.{_≤_};
 use counter::doors;
+use counter::doors::ReadAnswer;
 use counter::verdict::Answer;
 
 // The cells of the largest chip.
@@ -105,7 +106,7 @@ pub(crate) fn step(mut chip: Chip) -> Done {
     Done { answer, chip }
 }
 
-pub(crate) fn read(chip: Chip) -> Answer {
+pub(crate) fn read(chip: Chip) -> ReadAnswer {
     let image = chip.image;
     let n = at_most_largest(chip.size);
     doors::read(&image[..n], chip.map, chip.start, chip.end)

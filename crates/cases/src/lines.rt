@@ -50,6 +50,21 @@ fn print_cell(chip: Chip, at: usize) {
     }
 }
 
+fn print_count(key: &[u8], count: u32) {
+    print_number(key, count as u64);
+}
+
+fn print_bits(bits: [u32; 8]) {
+    print_count(b" bit0=", bits[0]);
+    print_count(b" bit1=", bits[1]);
+    print_count(b" bit2=", bits[2]);
+    print_count(b" bit3=", bits[3]);
+    print_count(b" bit4=", bits[4]);
+    print_count(b" bit5=", bits[5]);
+    print_count(b" bit6=", bits[6]);
+    print_count(b" bit7=", bits[7]);
+}
+
 fn say(name: &[u8], answer: Answer, chip: Chip, first: usize, second: usize) {
     print_answer(name, answer);
     print_cell(chip, first);
@@ -72,7 +87,17 @@ pub(crate) fn say_step(name: &[u8], chip: Chip, first: usize, second: usize) -> 
 
 // A read leaves the chip as it is.
 pub(crate) fn say_read(name: &[u8], chip: Chip) {
-    say(name, read(chip), chip, NONE, NONE);
+    let done = read(chip);
+    say(name, done.answer, chip, NONE, NONE);
+}
+
+// A read with the counts of mended bits, the lowest bit first.
+pub(crate) fn say_mended(name: &[u8], chip: Chip) {
+    let done = read(chip);
+    let bits = done.bits;
+    print_answer(name, done.answer);
+    print_bits(bits);
+    io::write_all(STDOUT_FILENO, b"\n");
 }
 
 // Opens a blank chip.

@@ -1,20 +1,26 @@
 -- The laws of readings (document 01, "Nibbles, bytes and Gray words").
 --   tally               how many readings of a list are clean, mended and lost
 --   tally-of-bytes      of the 256 bytes 16 are clean, 128 mended and 112 lost
+--   tally-of-bits       16 bytes are mended in each of the bits 0 to 7
 --   no-twofold          no byte is one bit from two codes
 --   entry-at            the table holds at each byte its entry
 --   entry-reading       the entry of a byte stands for its reading
 --   entry-twofold       the entry of a byte tells whether it is one bit from two codes
+--   entry-bit           an entry names no bit past 7
+--   mended-flips        a byte mended in bit i is the nibble's code with that bit flipped, and i is at most 7
 --   code-clean          the code of d reads clean d
 --   code-injective      two nibbles with one code are one
 --   lost-zero           a lost reading gives the nibble 0
 --   nibble-round        the code of a word's nibble reads as that nibble
 --   nibble-kept         the code of a word's nibble is not lost
+--   nibble-unmended     the code of a word's nibble was mended in no bit
 --   clean-code          a byte whose entry is a nibble is that nibble's code
 use mathlib.Core.Path.{_≡_, refl, sym, ap, _∙_}
-use mathlib.Core.Bool.{Bool, true, false, true≢false}
+use mathlib.Core.Bool.{Bool, true, false, cond, true≢false}
 use mathlib.Core.List.{List, [], _∷_}
-use Prim.Native.Nat.{ℕ, _+_, _<_}
+use Prim.Native.Nat.{ℕ, _+_, _-_, _/_, _%_, _^_, _<_}
+use native.Mathlib.Omega.{arith}
+use lib.Bits.{bitXor}
 use lib.Count.{ones, onesIn, trailingZeros}
 use lib.Dec.{ltb}
 use lib.ListN.{getD}
@@ -22,7 +28,8 @@ use Rattle.code.specs.declared.reading.Reading.{Reading}
 use Rattle.code.specs.declared.reading.Reading.the-variants.{Clean, Mended, Lost}
 use Rattle.code.specs.Codes.{codes, codeOf, distance}
 use Rattle.code.specs.Readings.{nearFrom, near, nearest, several, readingOf, twofold, isLost, nibbleRead}
-use Rattle.code.specs.Entries.{entryFrom, entryOf, entries, readingAt, twofoldAt}
+use Rattle.code.specs.Entries.{mendedEntry, lostEntry, entryFrom, entryOf, entries, readingAt, twofoldAt}
+use Rattle.code.specs.Mended.{mendedIn}
 use Rattle.code.specs.Nibbles.{nibbleOf}
 use Rattle.code.specs.Tabulate.{tabulate}
 use Rattle.code.proofs.TabulateLaws.{at, agree, alike}
@@ -36,27 +43,46 @@ use borrow.Author.Tests.{lt-ltb}
 abbrev pub tally : List Reading → ℕ × ℕ × ℕ
 tally [] = (0, 0, 0)
 tally (Clean d ∷ rs) = let n = tally rs in (n .0 + 1, n .1, n .2)
-tally (Mended d ∷ rs) = let n = tally rs in (n .0, n .1 + 1, n .2)
+tally (Mended d bit ∷ rs) = let n = tally rs in (n .0, n .1 + 1, n .2)
 tally (Lost ∷ rs) = let n = tally rs in (n .0, n .1, n .2 + 1)
 
--- of the 256 bytes 16 are clean, 128 mended and 112 lost
-pub tally-of-bytes : tally (tabulate readingOf 0 256) ≡ (16, 128, 112)
-unfolding codes onesIn readingOf
-tally-of-bytes = ap tally (alike readingOf (λ b. nearest (quickNear 0 b) (quickNear 1 b)) 256 (by-near nearest))
+-- the readings of all bytes
+abbrev readings : List Reading
+readings = tabulate readingOf 0 256
 
--- the first where the test holds, else the second
-abbrev either : Bool → ℕ → ℕ → ℕ
-either true a b = a
-either false a b = b
+quick-readings : readings ≡ tabulate (λ b. nearest b (quickNear 0 b) (quickNear 1 b)) 0 256
+unfolding readingOf
+quick-readings = alike readingOf (λ b. nearest b (quickNear 0 b) (quickNear 1 b)) 256 (λ b. by-near (nearest b) b)
+
+-- of the 256 bytes 16 are clean, 128 mended and 112 lost
+pub tally-of-bytes : tally readings ≡ (16, 128, 112)
+unfolding codes codeOf onesIn trailingZeros
+tally-of-bytes = ap tally quick-readings
+
+-- how many readings of a list were mended in bit i
+abbrev pub tallyIn : ℕ → List Reading → ℕ
+tallyIn i [] = 0
+tallyIn i (r ∷ rs) = cond (mendedIn i r) 1 0 + tallyIn i rs
+
+-- 16 bytes are mended in each of the bits 0 to 7
+pub tally-of-bits : (i : ℕ) → i < 8 → tallyIn i readings ≡ 16
+unfolding codes codeOf onesIn trailingZeros mendedIn
+tally-of-bits i l = ap (tallyIn i) quick-readings ∙ agree (λ i. tallyIn i (tabulate (λ b. nearest b (quickNear 0 b) (quickNear 1 b)) 0 256)) (λ i. 16) 8 refl i l
+
+-- the byte that a reading is of: the code, or the code with the bit flipped; b where it is lost
+abbrev byteOf : ℕ → Reading → ℕ
+byteOf b (Clean d) = codeOf d
+byteOf b (Mended d bit) = bitXor (codeOf d) (2 ^ bit)
+byteOf b Lost = b
 
 -- of the byte b, given the nibbles at no and at one bit: the reading that its entry stands for, whether its entry tells of two
--- codes one bit away, whether there are, and its entry's own code, where that is a nibble
+-- codes one bit away, whether there are, and the byte that its reading is of
 abbrev told : ℕ → List ℕ → List ℕ → Reading × Bool × Bool × ℕ
-told b same near = let e = entryFrom b same near in (readingAt e, twofoldAt e, several near, either (ltb e 16) (codeOf e) b)
+told b same near = let e = entryFrom b same near in (readingAt e, twofoldAt e, several near, byteOf b (nearest b same near))
 
 -- what these four should be
 abbrev due : ℕ → List ℕ → List ℕ → Reading × Bool × Bool × ℕ
-due b same near = (nearest same near, false, false, b)
+due b same near = (nearest b same near, false, false, b)
 
 -- the test over the whole table
 table-right : (b : ℕ) → b < 256 → told b (near 0 b) (near 1 b) ≡ due b (near 0 b) (near 1 b)
@@ -64,6 +90,11 @@ unfolding codes codeOf onesIn trailingZeros
 table-right b h =
     by-near (told b) b h ∙ agree (λ b. told b (quickNear 0 b) (quickNear 1 b)) (λ b. due b (quickNear 0 b) (quickNear 1 b)) 256 refl b h
     ∙ sym (by-near (due b) b h)
+
+-- a byte is the one that its reading is of
+byte-of : (b : ℕ) → b < 256 → byteOf b (readingOf b) ≡ b
+unfolding readingOf
+byte-of b h = ap (λ right. right .3) (table-right b h)
 
 -- no byte is one bit from two codes
 pub no-twofold : (b : ℕ) → b < 256 → twofold b ≡ false
@@ -87,6 +118,19 @@ pub entry-twofold : (b : ℕ) → b < 256 → twofoldAt (entryOf b) ≡ twofold 
 unfolding entryOf
 entry-twofold b h = ap (λ right. right .1) (table-right b h) ∙ sym (no-twofold b h)
 
+-- an entry names no bit past 7
+pub entry-bit : (e d bit : ℕ) → readingAt e ≡ Mended d bit → bit < 8
+entry-bit e d bit same = go (ltb e mendedEntry) (ltb e lostEntry) same
+  where
+    go : (nibble mended : Bool) → cond nibble (Clean e) (cond mended (Mended ((e - mendedEntry) / 8) ((e - mendedEntry) % 8)) Lost) ≡ Mended d bit → bit < 8
+    go true mended same = absurd (true≢false cc)
+    go false true same = let is : (e - mendedEntry) % 8 ≡ bit = cc in omega arith
+    go false false same = absurd (true≢false cc)
+
+-- a byte mended in bit i is the nibble's code with that bit flipped, and i is at most 7
+pub mended-flips : (b : ℕ) → b < 256 → (d bit : ℕ) → readingOf b ≡ Mended d bit → (b ≡ bitXor (codeOf d) (2 ^ bit)) × (bit < 8)
+mended-flips b h d bit same = (sym (byte-of b h) ∙ ap (byteOf b) same, entry-bit (entryOf b) d bit (entry-reading b h ∙ same))
+
 -- ---- codes and nibbles
 
 -- the code of d reads clean d
@@ -109,14 +153,20 @@ pub nibble-kept : (w k : ℕ) → isLost (readingOf (codeOf (nibbleOf w k))) ≡
 unfolding isLost
 nibble-kept w k = ap isLost (code-clean (nibbleOf w k) (nibble-small w k))
 
+-- the code of a word's nibble was mended in no bit
+pub nibble-unmended : (w k i : ℕ) → mendedIn i (readingOf (codeOf (nibbleOf w k))) ≡ false
+unfolding mendedIn
+nibble-unmended w k i = ap (mendedIn i) (code-clean (nibbleOf w k) (nibble-small w k))
+
 -- a lost reading gives the nibble 0
 pub lost-zero : (r : Reading) → isLost r ≡ true → nibbleRead r ≡ 0
 unfolding isLost nibbleRead
 lost-zero (Clean d) h = absurd (true≢false cc)
-lost-zero (Mended d) h = absurd (true≢false cc)
+lost-zero (Mended d bit) h = absurd (true≢false cc)
 lost-zero Lost h = refl
 
 -- a byte whose entry is a nibble is that nibble's code
 pub clean-code : (b : ℕ) → b < 256 → entryOf b < 16 → b ≡ codeOf (entryOf b)
-unfolding entryOf
-clean-code b small clean = sym (rw (lt-ltb _ _ clean) at (ap (λ right. right .3) (table-right b small)))
+clean-code b small clean =
+    let reads : readingOf b ≡ Clean (entryOf b) = sym (entry-reading b small) ∙ rw (lt-ltb _ _ clean) in
+    sym (byte-of b small) ∙ ap (byteOf b) reads

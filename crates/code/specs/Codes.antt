@@ -1,9 +1,9 @@
--- The sixteen codes, and the distance of two bytes (document 01, "Nibbles, bytes and Gray words").
+-- The sixteen codes, and where two bytes differ (document 01, "Nibbles, bytes and Gray words"; document 02, P1).
 use Prim.Native.Nat.{ℕ, _%_}
 use mathlib.Core.List.{List, [], _∷_}
 use lib.ListN.{getD}
 use lib.Bits.{bitXor}
-use lib.Count.{ones}
+use lib.Count.{ones, trailingZeros}
 
 -- the codes of 0 to 15
 unfoldable pub codes : List ℕ
@@ -17,3 +17,7 @@ codeOf d = getD codes (d % 16) 0
 -- the number of bits in which two bytes differ
 unfoldable pub distance : ℕ → ℕ → ℕ
 distance a b = ones (bitXor a b)
+
+-- the number of the bit in which two bytes differ, 0 (lowest) to 7; of several the lowest
+abbrev pub differsAt : ℕ → ℕ → ℕ
+differsAt a b = trailingZeros 8 (bitXor a b)

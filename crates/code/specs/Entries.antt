@@ -1,14 +1,12 @@
 -- The table of readings: an entry is one number for what a byte reads as (document 01, "Nibbles, bytes and Gray words").
-use Prim.Native.Nat.{ℕ, _+_, _-_, _*_, _/_}
+use Prim.Native.Nat.{ℕ, _+_, _-_, _*_, _/_, _%_}
 use mathlib.Core.Bool.{Bool, cond}
 use mathlib.Core.List.{List, [], _∷_}
-use lib.Bits.{bitXor}
-use lib.Count.{trailingZeros}
 use lib.Dec.{ltb, eqb}
 use Rattle.code.specs.declared.reading.Reading.{Reading}
 use Rattle.code.specs.declared.reading.Reading.the-variants.{Clean, Mended, Lost}
 use Rattle.code.specs.Tabulate.{tabulate}
-use Rattle.code.specs.Codes.{codeOf}
+use Rattle.code.specs.Codes.{codeOf, differsAt}
 use Rattle.code.specs.Readings.{near}
 
 -- the first entry of a mended byte, the entry of a lost one, and that of a byte one bit from two codes
@@ -26,7 +24,7 @@ twofoldEntry = 145
 abbrev pub entryFrom : ℕ → List ℕ → List ℕ → ℕ
 entryFrom b (d ∷ ds) es = d
 entryFrom b [] [] = lostEntry
-entryFrom b [] (d ∷ []) = mendedEntry + 8 * d + trailingZeros 8 (bitXor b (codeOf d))
+entryFrom b [] (d ∷ []) = mendedEntry + 8 * d + differsAt b (codeOf d)
 entryFrom b [] (d ∷ e ∷ es) = twofoldEntry
 
 -- the entry of the byte b
@@ -40,7 +38,9 @@ entries = tabulate entryOf 0 256
 -- the reading that an entry stands for
 abbrev pub readingAt : ℕ → Reading
 readingAt e =
-    cond (ltb e mendedEntry) (Clean e) (cond (ltb e lostEntry) (Mended ((e - mendedEntry) / 8)) Lost)
+    cond (ltb e mendedEntry) (Clean e)
+    (cond (ltb e lostEntry) (Mended ((e - mendedEntry) / 8) ((e - mendedEntry) % 8))
+    Lost)
 
 -- whether an entry stands for a byte one bit from two codes
 abbrev pub twofoldAt : ℕ → Bool

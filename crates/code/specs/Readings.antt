@@ -1,11 +1,11 @@
--- What a byte reads as: the nearest-code rule (document 01, "Nibbles, bytes and Gray words").
+-- What a byte reads as: the nearest-code rule (document 01, "Nibbles, bytes and Gray words"; document 02, P1).
 use Prim.Native.Nat.{ℕ, _+_}
 use mathlib.Core.Bool.{Bool, true, false}
 use mathlib.Core.List.{List, [], _∷_}
 use lib.Dec.{eqb}
 use Rattle.code.specs.declared.reading.Reading.{Reading}
 use Rattle.code.specs.declared.reading.Reading.the-variants.{Clean, Mended, Lost}
-use Rattle.code.specs.Codes.{codes, distance}
+use Rattle.code.specs.Codes.{codes, codeOf, distance, differsAt}
 
 -- d in front of ds, where the test says so
 abbrev pub keep : Bool → ℕ → List ℕ → List ℕ
@@ -21,15 +21,15 @@ nearFrom k b d (x ∷ xs) = keep (eqb (distance b x) k) d (nearFrom k b (d + 1) 
 unfoldable pub near : ℕ → ℕ → List ℕ
 near k b = nearFrom k b 0 codes
 
--- a byte's reading, given the nibbles whose code it is and those whose code is one bit away
-abbrev pub nearest : List ℕ → List ℕ → Reading
-nearest (d ∷ ds) ones = Clean d
-nearest [] (d ∷ ds) = Mended d
-nearest [] [] = Lost
+-- the reading of the byte b, given the nibbles whose code it is and those whose code is one bit away
+abbrev pub nearest : ℕ → List ℕ → List ℕ → Reading
+nearest b (d ∷ ds) ones = Clean d
+nearest b [] (d ∷ ds) = Mended d (differsAt b (codeOf d))
+nearest b [] [] = Lost
 
--- clean(d) when b is the code of d, mended(d) when it differs from the code of d in one bit, else lost
+-- clean(d) when b is the code of d, mended(d) when it differs from the code of d in one bit, which is named too, else lost
 unfoldable pub readingOf : ℕ → Reading
-readingOf b = nearest (near 0 b) (near 1 b)
+readingOf b = nearest b (near 0 b) (near 1 b)
 
 abbrev pub several : List ℕ → Bool
 several [] = false
@@ -43,11 +43,11 @@ twofold b = several (near 1 b)
 -- whether a reading tells nothing
 unfoldable pub isLost : Reading → Bool
 isLost (Clean d) = false
-isLost (Mended d) = false
+isLost (Mended d bit) = false
 isLost Lost = true
 
 -- the nibble that a reading gives; 0 where it is lost
 unfoldable pub nibbleRead : Reading → ℕ
 nibbleRead (Clean d) = d
-nibbleRead (Mended d) = d
+nibbleRead (Mended d bit) = d
 nibbleRead Lost = 0

@@ -2,6 +2,7 @@
 // their nibbles. Nothing here knows of images, maps or wear.
 pub mod codes;
 pub mod gray;
+pub mod mended;
 pub mod nibbles;
 pub mod reading;
 pub mod table;

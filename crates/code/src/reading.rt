@@ -1,13 +1,14 @@
-// The readings of a byte (document 01, "Nibbles, bytes and Gray words").
+// The readings of a byte (document 01, "Nibbles, bytes and Gray words"; document 02, P1).
 ghost use mathlib.Core.Path.{_≡_};
 ghost use Rattle.code.specs.Readings.{readingOf, twofold, isLost, nibbleRead};
 ghost use Rattle.code.specs.Entries.{readingAt, twofoldAt};
 use super::table::entry_of;
 
-// What a byte reads as: a nibble's own code, a byte one bit from it, or nothing that can be told.
+// What a byte reads as: a nibble's own code; a byte one bit from it, with that bit's number, 0 (lowest) to 7; or nothing that
+// can be told.
 pub enum Reading {
     Clean(u8),
-    Mended(u8),
+    Mended(u8, u8),
     Lost,
 }
 
@@ -25,7 +26,7 @@ pub fn reading_at(entry: u8) -> Reading
     if entry < MENDED {
         Reading::Clean(entry)
     } else if entry < LOST {
-        Reading::Mended((entry - MENDED) / 8)
+        Reading::Mended((entry - MENDED) / 8, (entry - MENDED) % 8)
     } else {
         Reading::Lost
     }
@@ -58,7 +59,7 @@ pub fn is_lost(reading: Reading) -> bool
 {
     match reading {
         Reading::Clean(_) => false,
-        Reading::Mended(_) => false,
+        Reading::Mended(_, _) => false,
         Reading::Lost => true,
     }
 }
@@ -69,7 +70,7 @@ pub fn nibble_read(reading: Reading) -> u8
 {
     match reading {
         Reading::Clean(d) => d,
-        Reading::Mended(d) => d,
+        Reading::Mended(d, _) => d,
         Reading::Lost => 0,
     }
 }

@@ -6,7 +6,7 @@
 --   spareless-code, spareless-place  8 where it found no spare, and the slot
 --   mapless-code              9 where a map byte failed
 --   open-is, step-is          the outcomes of open and step are those of their work
---   read-good                 what a good read answers
+--   read-is, read-good        the answer of read is that of its verdict, and what a good one says
 use Prim.Native.Nat.{ℕ, _≤_}
 use mathlib.Core.Path.{_≡_, refl, ap}
 use mathlib.Core.List.{List}
@@ -89,6 +89,10 @@ module _ (r : Run Verdict) where
 -- ## The doors
 
 module _ (layout : Layout) (p : Places) where
+  pub read-is : (cells : List ℕ) → readOf layout p cells ≡ answerOf (verdictOf layout p cells) 0 0
+  unfolding readOf
+  read-is cells = refl
+
   pub read-good : {c : ℕ} {lag : ℤ} (cells : List ℕ) → verdictOf layout p cells ≡ Good c lag → readOf layout p cells ≡ answer 0 c lag 0 0 0
   unfolding readOf answerOf
   read-good cells e = rw e

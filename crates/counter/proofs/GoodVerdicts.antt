@@ -1,11 +1,14 @@
 -- What a good verdict says: no refusal's test failed, and the count is one of 32 bits.
 --   unless-good, found-good   a test passed on the way to a count
---   VerdictGood               what a good verdict of a chip says
---   verdict-good              it does
+--   CellsGood, cells-good     what a good verdict of an image says
+--   good-reaches              its map's pointers are cells of it
+--   VerdictGood, verdict-good and of a chip
 --   verdict-room              a reading is not refused for want of a spare
 use Prim.Native.Nat.{ℕ, _-_, _^_, _<_}
 use mathlib.Core.Path.{_≡_, refl}
 use mathlib.Core.Bool.{Bool, true, false, cond, true≢false}
+use mathlib.Core.List.{List}
+use native.Mathlib.Omega.{arith}
 use lib.IntN.{ℤ, pos, _-ℤ_}
 use lib.ListN.{length}
 use borrow.Author.Tests.{eqb-true}
@@ -22,12 +25,15 @@ use Rattle.counter.specs.declared.verdict.Refusal.the-variants.{BadLengt
 use Rattle.counter.specs.declared.verdict.Verdict.{Verdict}
 use Rattle.counter.specs.declared.verdict.Verdict.the-variants.{Good, Refused}
 use Rattle.code.specs.Tabulate.{tabulate}
-use Rattle.counter.specs.Layout.{Layout, slots}
+use Rattle.counter.specs.Layout.{Layout, two, slots}
 use Rattle.counter.specs.Slots.{lowest}
 use Rattle.counter.specs.Places.{lengthGood, placesGood, livesGood}
-use Rattle.counter.specs.Map.{mapIn, marked, sound}
-use Rattle.counter.specs.Reading.{nibbleIn, countIn, close, decide, someTwofold, lostAt, unless, onFound, weigh, examine, verdictOf}
+use Rattle.counter.specs.Map.{mapIn, marked, pointerOf, sound}
+use Rattle.counter.specs.Reading.{dataAt, nibbleIn, countIn, close, decide, someTwofold, lostAt, unless, onFound, weigh, examine, verdictOf}
 use Rattle.counter.specs.Doors.{chipVerdict}
+use Rattle.counter.specs.Inside.{Reaches}
+use Rattle.counter.proofs.Settings.{good-placed}
+use Rattle.counter.proofs.MapBytes.{map-whole}
 use Rattle.counter.proofs.SoundPointers.{Sound, test-sound}
 use Rattle.counter.proofs.Ready.{pointers, dataOf, Ready}
 
@@ -66,6 +72,29 @@ weigh-good layout byte e =
     let q = decide-good (countIn layout reading 0) (countIn layout reading (layout .copies - 1)) h′ in
     rw q at (count-small-read layout reading 0)
 
+pub record CellsGood (layout : Layout) (p : Places) (cells : List ℕ) : Type 0 where
+  pub long : lengthGood layout (length cells) ≡ true
+  pub good : placesGood layout (length cells) p ≡ true
+  pub marks : marked (mapIn layout p cells) ≡ true
+  pub sound : Sound (slots layout) p (pointerOf (mapIn layout p cells))
+
+pub cells-good : {c : ℕ} {lag : ℤ} (layout : Layout) (p : Places) (cells : List ℕ) → verdictOf layout p cells ≡ Good c lag → CellsGood layout p cells × (c < 2 ^ 32)
+unfolding verdictOf examine
+cells-good layout p cells e =
+    let map = mapIn layout p cells in
+    let h₁ = unless-good (lengthGood layout (length cells)) BadLength _ e in
+    let h₂ = unless-good (placesGood layout (length cells) p) BadPlaces _ (h₁ .1) in
+    let h₃ = unless-good (marked map) NoMark _ (h₂ .1) in
+    let h₄ = unless-good (sound layout p (pointerOf map)) UnsoundMap _ (h₃ .1) in (
+      record { long = h₁ .0; good = h₂ .0; marks = h₃ .0; sound = test-sound layout p (pointerOf map) (h₄ .0) },
+      weigh-good layout (dataAt cells map) (h₄ .1),
+    )
+
+pub good-reaches : {p : Places} {cells : List ℕ} → CellsGood two p cells → Reaches cells (mapIn two p cells)
+good-reaches {p} {cells} facts =
+    let placed = good-placed two _ _ (facts .good) in
+    (map-whole cells placed, λ k l. omega (arith, placed, facts .sound .inside k l .to))
+
 pub record VerdictGood (layout : Layout) (p : Places) (c : ℕ) (s : Chip) : Type 0 where
   pub ready : Ready layout p s
   pub marks : marked (mapIn layout p (s .cells)) ≡ true
@@ -75,19 +104,16 @@ pub record VerdictGood (layout : Layout) (p : Places) (c : ℕ) (s : Chip) : Typ
 pub verdict-good :
     {c : ℕ} {lag : ℤ} (layout : Layout) (p : Places) (s : Chip) → chipVerdict layout p s ≡ Good c lag
     → (verdictOf layout p (s .cells) ≡ Good c lag) × VerdictGood layout p c s
-unfolding chipVerdict livesGood verdictOf examine
+unfolding chipVerdict livesGood
 verdict-good layout p s e =
-    let h₁ = unless-good (livesGood s) BadLength _ e in
-    let h₂ = unless-good (lengthGood layout (length (s .cells))) BadLength _ (h₁ .1) in
-    let h₃ = unless-good (placesGood layout (length (s .cells)) p) BadPlaces _ (h₂ .1) in
-    let h₄ = unless-good (marked (mapIn layout p (s .cells))) NoMark _ (h₃ .1) in
-    let h₅ = unless-good (sound layout p (pointers layout p s)) UnsoundMap _ (h₄ .1) in (
-      h₁ .1,
+    let (paired, reads) = unless-good (livesGood s) BadLength _ e in
+    let (facts, small) = cells-good layout p (s .cells) reads in (
+      reads,
       record {
-        ready = record { paired = eqb-true _ _ (h₁ .0); long = h₂ .0; good = h₃ .0 };
-        marks = h₄ .0;
-        sound = test-sound layout p (pointers layout p s) (h₅ .0);
-        small = weigh-good layout (dataOf layout p s) (h₅ .1);
+        ready = record { paired = eqb-true _ _ paired; long = facts .long; good = facts .good };
+        marks = facts .marks;
+        sound = facts .sound;
+        small = small;
       },
     )
 

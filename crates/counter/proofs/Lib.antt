@@ -27,6 +27,7 @@ pub mod ReadBack
 pub mod PlainBytes
 pub mod Exact
 pub mod GoodVerdicts
+pub mod MendedBits
 pub mod Lags
 pub mod Standings
 pub mod DoorViews

@@ -10,6 +10,7 @@ use lib.Dec.{leb, eqb}
 use Rattle.cells.specs.Chip.{Chip}
 use Rattle.cells.specs.Run.{Run, still}
 use Rattle.counter.specs.declared.doors.Part.{Part}
+use Rattle.counter.specs.declared.doors.ReadAnswer.{ReadAnswer}
 use Rattle.counter.specs.declared.places.Places.{Places}
 use Rattle.counter.specs.declared.verdict.Answer.{Answer}
 use Rattle.counter.specs.declared.verdict.Verdict.{Verdict}
@@ -20,6 +21,7 @@ use Rattle.counter.specs.Places.{lengthGood, placesGood, livesGood}
 use Rattle.counter.specs.Map.{mapIn, marked, pointerOf, sound, partAt}
 use Rattle.counter.specs.Verdict.{Outcome, outcome, outcomeOf, refusalOf, answerOf, onGood, provided, _endingIn_, _andThen_}
 use Rattle.counter.specs.Reading.{unless, guarded, examine, verdictOf}
+use Rattle.counter.specs.Mended.{bitsOf}
 use Rattle.counter.specs.Store.{store}
 use Rattle.counter.specs.Opening.{firstOpening}
 
@@ -72,6 +74,10 @@ stepOf layout p s = outcomeOf (stepRun layout p s)
 unfoldable pub readOf : Layout → Places → List ℕ → Answer
 readOf layout p cells = answerOf (verdictOf layout p cells) 0 0
 
+-- what read gives: its answer, and the counts of mended bits
+abbrev pub readAnswerOf : Layout → Places → List ℕ → ReadAnswer
+readAnswerOf layout p cells = record { answer = readOf layout p cells; bits = bitsOf layout p cells }
+
 -- Map part: its code, and where in the image the part starts and how long it is.
 abbrev pub part : ℕ → ℕ → ℕ → Part
 part code start size = record { code = code; start = start; size = size }
@@ -103,8 +109,8 @@ abbrev pub Steps : Places → Chip → Answer → Chip → Type 0
 Steps p s says leaves = outcome says leaves ≡ stepOf two p s
 
 -- of read
-abbrev pub Reads : Places → List ℕ → Answer → Type 0
-Reads p cells says = says ≡ readOf two p cells
+abbrev pub Reads : Places → List ℕ → ReadAnswer → Type 0
+Reads p cells says = says ≡ readAnswerOf two p cells
 
 -- of map part: the lent number is the code, and the part returned is that part of the image itself; a place
 -- is an allocation and an offset in it

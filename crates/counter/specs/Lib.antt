@@ -5,6 +5,7 @@ pub mod Map
 pub mod Spares
 pub mod Verdict
 pub mod Reading
+pub mod Mended
 pub mod Store
 pub mod Opening
 pub mod Doors

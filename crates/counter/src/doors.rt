@@ -15,6 +15,7 @@ ghost use Rattle.counter.specs.Store.{store};
 ghost use Rattle.counter.specs.Doors.{lastCount, beginning, reopening, stepping, partVerdict, mapPartOf, Opens, Steps, Reads, HandsBack};
 ghost use Rattle.counter.specs.Inside.{fitted, standingOf, Holds};
 use super::map::Map;
+use super::mended::bits_of;
 use super::opening::open_first;
 use super::places::Places;
 use super::reading::examined;
@@ -35,6 +36,12 @@ use super::verdict::Work;
 use super::verdict::answer_of;
 use super::verdict::refusal_of;
 
+// What read answers: beside the answer, how many of the sixteen data cells were mended in each of the bits 0 to 7.
+pub struct ReadAnswer {
+    pub answer: Answer,
+    pub bits: [u32; 8],
+}
+
 // Which part of an image map part hands back, and its code.
 pub struct Part {
     pub code: u32,
@@ -45,8 +52,8 @@ pub struct Part {
 // The highest count of 32 bits.
 const LAST_COUNT: u32 = 4294967295;
 
-// Reads the count. It writes nothing.
-pub fn read(image: &[u8], m: usize, s: usize, e: usize) -> Answer
+// Reads the count, and which bits were mended. It writes nothing.
+pub fn read(image: &[u8], m: usize, s: usize, e: usize) -> ReadAnswer
     ensures { λ r. ⌜ Reads (places m s e) (now (image .entry)) r ⌝ }
 {
     let p = Places {
@@ -56,7 +63,11 @@ pub fn read(image: &[u8], m: usize, s: usize, e: usize) -> Answer
     };
     let found = verdict_of(image, p);
     let verdict = found.verdict;
-    answer_of(verdict, 0, 0)
+    let bits = bits_of(image, p, found);
+    ReadAnswer {
+        answer: answer_of(verdict, 0, 0),
+        bits,
+    }
 }
 
 // The answer of a call that ends so when its storing is done.

@@ -1,8 +1,9 @@
 // The turn counter over a lent EEPROM image (document 01). The stations of the data, in order: the place
-// settings, the map, the spare cells, reading, the verdict and its answer, storing, the first opening, and
+// settings, the map, the spare cells, reading and what was mended, the verdict and its answer, storing, the first opening, and
 // the four doors.
 pub mod doors;
 pub mod map;
+pub mod mended;
 pub mod opening;
 pub mod places;
 pub mod reading;

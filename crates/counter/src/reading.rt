@@ -44,7 +44,7 @@ fn byte_of(image: &[u8], map: &[u8], slot: usize) -> u8
 }
 
 // The bytes at all pointers.
-fn data_of(image: &[u8], map: &[u8]) -> [u8; 16]
+pub(crate) fn data_of(image: &[u8], map: &[u8]) -> [u8; 16]
     requires { ⌜ Reaches (now image) (now map) ⌝ }
     ensures { λ r. ⌜ ((k : ℕ) → k < slots two → listed r k ≡ dataAt (now (image .entry)) (now (map .entry)) k) ⌝ }
 {

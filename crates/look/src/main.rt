@@ -1,5 +1,5 @@
-// Reads a raw image of setting A on standard input and prints the read: its code, count, lag and place
-// (document 01, "Measured on the bench").
+// Reads a raw image of setting A on standard input and prints the read: its code, count, lag and place (document 01, "Measured
+// on the bench"), and which bits were mended (document 02, P1).
 mod lines;
 
 use libc::STDIN_FILENO;
@@ -8,7 +8,7 @@ ghost use Prim.Native.Nat.{_≤_};
 ghost use lib.ListN.{length};
 ghost use Rattle.counter.specs.Layout.{two};
 ghost use Rattle.counter.specs.Places.{settingA};
-ghost use Rattle.counter.specs.Doors.{readOf};
+ghost use Rattle.counter.specs.Doors.{readAnswerOf};
 ghost use Rattle.text.specs.Text.{Wrote};
 ghost use Rattle.look.specs.Look.{longest, lookText};
 
@@ -23,7 +23,7 @@ const END: usize = 128;
 // that is.
 fn look(image: &[u8], text: &mut [u8]) -> usize
     requires { ⌜ longest ≤ length (now text) ⌝ }
-    ensures { λ r. ⌜ Wrote (now (text .entry)) 0 (lookText (readOf two settingA (now (image .entry)))) r (now (text .exit)) ⌝ }
+    ensures { λ r. ⌜ Wrote (now (text .entry)) 0 (lookText (readAnswerOf two settingA (now (image .entry)))) r (now (text .exit)) ⌝ }
 {
     lines::fill(counter::doors::read(image, MAP, START, END), text)
 }

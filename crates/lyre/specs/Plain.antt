@@ -1,12 +1,22 @@
 -- What the structs for C say, in the counter's own terms.
 use Rattle.counter.specs.declared.verdict.Answer as verdict
+use Rattle.counter.specs.declared.doors.ReadAnswer as reading
 use Rattle.counter.specs.declared.doors.Part as doors
 use Rattle.lyre.specs.declared.Answer.{Answer}
+use Rattle.lyre.specs.declared.ReadAnswer.{ReadAnswer}
 use Rattle.lyre.specs.declared.Part.{Part}
 
 -- the answer that an answer for C stands for, field by field
 abbrev pub answerIn : Answer → verdict.Answer
 answerIn a = record { code = a .code; count = a .count; lag = a .lag; place = a .place; writes = a .writes; tried = a .tried }
+
+-- the answer of read that one for C stands for: its six fields, and the counts behind them
+abbrev pub readAnswerIn : ReadAnswer → reading.ReadAnswer
+readAnswerIn a =
+    record {
+      answer = record { code = a .code; count = a .count; lag = a .lag; place = a .place; writes = a .writes; tried = a .tried };
+      bits = a .bit;
+    }
 
 -- the part that a part for C stands for
 abbrev pub partIn : Part → doors.Part

@@ -5,7 +5,7 @@ ghost use Rattle.cells.specs.Chip.{chip};
 ghost use Rattle.counter.specs.Layout.{two};
 ghost use Rattle.counter.specs.Places.{places};
 ghost use Rattle.counter.specs.Doors.{Opens, Steps, Reads, mapPartOf};
-ghost use Rattle.lyre.specs.Plain.{answerIn, partIn};
+ghost use Rattle.lyre.specs.Plain.{answerIn, readAnswerIn, partIn};
 
 // lyre_answer.
 #[repr(C)]
@@ -16,6 +16,18 @@ pub struct Answer {
     pub place: u64,
     pub writes: u64,
     pub tried: u64,
+}
+
+// lyre_read_answer.
+#[repr(C)]
+pub struct ReadAnswer {
+    pub code: u32,
+    pub count: u32,
+    pub lag: i64,
+    pub place: u64,
+    pub writes: u64,
+    pub tried: u64,
+    pub bit: [u32; 8],
 }
 
 // lyre_part.
@@ -54,12 +66,23 @@ pub extern "C" fn lyre_open(
     plain(counter::doors::open(image, lives, m, s, e))
 }
 
-// Reads the count.
+// Reads the count, and which bits were mended.
 #[no_mangle]
-pub extern "C" fn lyre_read(image: &[u8], m: usize, s: usize, e: usize) -> Answer
-    ensures { λ r. ⌜ Reads (places m s e) (now (image .entry)) (answerIn r) ⌝ }
+pub extern "C" fn lyre_read(image: &[u8], m: usize, s: usize, e: usize) -> ReadAnswer
+    ensures { λ r. ⌜ Reads (places m s e) (now (image .entry)) (readAnswerIn r) ⌝ }
 {
-    plain(counter::doors::read(image, m, s, e))
+    let read = counter::doors::read(image, m, s, e);
+    let bit = read.bits;
+    let says = plain(read.answer);
+    ReadAnswer {
+        code: says.code,
+        count: says.count,
+        lag: says.lag,
+        place: says.place,
+        writes: says.writes,
+        tried: says.tried,
+        bit,
+    }
 }
 
 // Steps the count by one.

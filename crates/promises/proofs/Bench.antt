@@ -6,12 +6,12 @@
 use Prim.Native.Nat.{ℕ}
 use mathlib.Core.Path.{_≡_, refl}
 use mathlib.Core.List.{List, [], _∷_, _++_, map}
-use lib.Count.{ones}
+use lib.Count.{ones, trailingZeros}
 use lib.IntN.{pos, negsuc}
 use lib.ListN.{replicate}
 use Rattle.code.specs.declared.reading.Reading.{Reading}
 use Rattle.code.specs.declared.reading.Reading.the-variants.{Clean, Mended, Lost}
-use Rattle.code.specs.Codes.{codes, distance}
+use Rattle.code.specs.Codes.{codes, codeOf, distance}
 use Rattle.code.specs.Readings.{nearFrom, near, readingOf, twofold, isLost, nibbleRead}
 use Rattle.code.specs.Gray.{bits, grayOf, halvesOf, countOf}
 use Rattle.code.specs.Nibbles.{wordOf}
@@ -56,11 +56,11 @@ look first second = says (readOf two (settingA) (chipA first second))
 abbrev pub bench : List Row
 bench =
     row 1 (reads (readingOf 0x80)) (reads (Clean 0)) ∷
-    row 2 (reads (readingOf 0x81)) (reads (Mended 0)) ∷
-    row 3 (reads (readingOf 0x06)) (reads (Mended 1)) ∷
-    row 4 (reads (readingOf 0x0F)) (reads (Mended 1)) ∷
+    row 2 (reads (readingOf 0x81)) (reads (Mended 0 0)) ∷
+    row 3 (reads (readingOf 0x06)) (reads (Mended 1 0)) ∷
+    row 4 (reads (readingOf 0x0F)) (reads (Mended 1 3)) ∷
     row 5 (reads (readingOf 0x01)) (reads Lost) ∷
-    row 6 (reads (readingOf 0xFF)) (reads (Mended 15)) ∷
+    row 6 (reads (readingOf 0xFF)) (reads (Mended 15 7)) ∷
     row 7 (word (grayOf 16)) (word 0x18) ∷
     row 7 (word (grayOf 15)) (word 0x08) ∷
     row 8 (word (grayOf 4294967295)) (word 0x80000000) ∷
@@ -73,5 +73,5 @@ bench =
 
 -- in each case the definitions answer what the paper says
 pub holds : map (λ r. r .found) bench ≡ map (λ r. r .paper) bench
-unfolding codes distance nearFrom near readingOf twofold isLost nibbleRead bits grayOf halvesOf countOf wordOf ones kindOf every some lowest lengthGood placesGood marked offsetIn offsetOf pointerAt pointerOf reachable inOrder sound answerOf firstRead nibbleIn countIn close decide weigh examine verdictOf readOf
+unfolding codes codeOf distance trailingZeros nearFrom near readingOf twofold isLost nibbleRead bits grayOf halvesOf countOf wordOf ones kindOf every some lowest lengthGood placesGood marked offsetIn offsetOf pointerAt pointerOf reachable inOrder sound answerOf firstRead nibbleIn countIn close decide weigh examine verdictOf readOf
 holds = refl

@@ -3,6 +3,7 @@ pub mod DoorRuns
 pub mod Untouched
 pub mod OwnCells
 pub mod TurnsAndCells
+pub mod MendedCells
 pub mod Room
 pub mod StepChanges
 pub mod Written

@@ -1,6 +1,6 @@
 -- From turns to cells and back (condition 2): a good open or step leaves every slot's cell with its code of the count that it
--- answers, in a sound map behind its mark; a read then gives that count, with lag 0; and a step's count is one more than that of
--- the read before it.
+-- answers, in a sound map behind its mark; a read then gives that count, with lag 0 and nothing mended; and a step's count is one
+-- more than that of the read before it.
 --   run-exact                 a good call leaves its count exactly
 --   open-exact, step-exact    so do open and step, of the count that they answer
 --   StepGood, step-good       what a good step read, answered and left
@@ -14,6 +14,8 @@ use lib.IntN.{ℤ, pos}
 use lib.ListN.{length}
 use Rattle.cells.specs.Chip.{Chip}
 use Rattle.cells.specs.Run.{Run}
+use Rattle.code.specs.Mended.{noBits}
+use Rattle.counter.specs.declared.doors.ReadAnswer.{ReadAnswer}
 use Rattle.counter.specs.declared.places.Places.{Places}
 use Rattle.counter.specs.declared.verdict.Verdict.{Verdict}
 use Rattle.counter.specs.declared.verdict.Verdict.the-variants.{Good, Refused}
@@ -23,9 +25,10 @@ use Rattle.counter.specs.Layout.{Layout}
 use Rattle.counter.specs.Verdict.{answer, outcomeOf, ending, _andThen_}
 use Rattle.counter.specs.Reading.{verdictOf}
 use Rattle.counter.specs.Store.{store}
-use Rattle.counter.specs.Doors.{lastCount, chipVerdict, openRun, stepRun, openOf, stepOf, readOf}
+use Rattle.counter.specs.Doors.{lastCount, chipVerdict, openRun, stepRun, openOf, stepOf, readOf, readAnswerOf}
 use Rattle.counter.proofs.DoorAnswers.{code-good, good-says, open-is, step-is, read-good}
 use Rattle.counter.proofs.Exact.{Exact, exact-reads}
+use Rattle.counter.proofs.MendedBits.{bits-exact}
 use Rattle.counter.proofs.GoodVerdicts.{not-good, VerdictGood, verdict-good}
 use Rattle.counter.proofs.DoorViews.{step-refused, step-last, step-on}
 use Rattle.promises.proofs.DoorRuns.{Comes, Comes.untouched, Comes.spareless, Comes.mapless, Comes.good, open-laws, step-laws}
@@ -39,11 +42,17 @@ run-exact r (spareless k e) g = not-good (sym e ∙ g)
 run-exact r (mapless a e) g = not-good (sym e ∙ g)
 run-exact {layout} {p} {s} {c} r (good d lag e small exact) g = let q : d ≡ c = cc in (rw q at small, rw q at exact)
 
+-- what a read answers where nothing was amiss: the count, and no more
+abbrev pub readsClean : ℕ → ReadAnswer
+readsClean c = record { answer = answer 0 c (pos 0) 0 0 0; bits = noBits }
+
 -- a read of what holds a count exactly
 read-exact :
     {layout : Layout} {p : Places} {c : ℕ} {s : Chip} → 1 ≤ layout .copies → c < 2 ^ 32 → Exact layout p c s
-    → readOf layout p (s .cells) ≡ answer 0 c (pos 0) 0 0 0
-read-exact {layout} {p} {c} {s} one small exact = read-good layout p (s .cells) (exact-reads exact one small)
+    → readAnswerOf layout p (s .cells) ≡ readsClean c
+read-exact {layout} {p} {c} {s} one small exact =
+    let says = read-good layout p (s .cells) (exact-reads exact one small) in
+    λ i. record { answer = says i; bits = bits-exact exact one small i }
 
 -- what a call of code 0 leaves is the count that it says
 says-exact :
@@ -66,12 +75,12 @@ module _ (layout : Layout) (p : Places) (s : Chip) where
 
   pub open-reads :
       1 ≤ layout .copies → openOf layout p s .says .code ≡ 0
-      → readOf layout p (openOf layout p s .leaves .cells) ≡ answer 0 (openOf layout p s .says .count) (pos 0) 0 0 0
+      → readAnswerOf layout p (openOf layout p s .leaves .cells) ≡ readsClean (openOf layout p s .says .count)
   open-reads one e = read-exact one (left-by-open e .0) (left-by-open e .1)
 
   pub step-reads :
       1 ≤ layout .copies → stepOf layout p s .says .code ≡ 0
-      → readOf layout p (stepOf layout p s .leaves .cells) ≡ answer 0 (stepOf layout p s .says .count) (pos 0) 0 0 0
+      → readAnswerOf layout p (stepOf layout p s .leaves .cells) ≡ readsClean (stepOf layout p s .says .count)
   step-reads one e = read-exact one (left-by-step e .0) (left-by-step e .1)
 
 -- what a good step read, answered and left

@@ -25,6 +25,7 @@ use Rattle.code.proofs.reading.reading_of
 use Rattle.code.proofs.reading.twofold_byte
 use Rattle.code.proofs.reading.is_lost
 use Rattle.code.proofs.reading.nibble_read
+use Rattle.code.proofs.mended.mended_bits
 use Rattle.code.proofs.table.laid
 use Rattle.code.proofs.table.wide
 use Rattle.code.proofs.table.entries_of
@@ -40,8 +41,10 @@ use Rattle.counter.proofs.doors.step
 use Rattle.counter.proofs.doors.part_of
 use Rattle.counter.proofs.doors.map_part
 use Rattle.counter.specs.declared.verdict.Answer as verdict
+use Rattle.counter.specs.declared.doors.ReadAnswer as reading
 use Rattle.counter.specs.declared.doors.Part as doors
 use Rattle.lyre.specs.declared.Answer as plain
+use Rattle.lyre.specs.declared.ReadAnswer as plainReading
 use Rattle.lyre.specs.declared.Part as plainPart
 use Rattle.lyre.proofs.lyre_open
 use Rattle.lyre.proofs.lyre_step
@@ -57,9 +60,14 @@ use Rattle.text.proofs.write_signed_line
 use Prim.Native.Nat.{ℕ}
 use mathlib.Core.List.{List}
 
--- an answer and a part as they are laid out for C
+-- an answer, that of read, and a part as they are laid out for C
 abbrev answerOut : verdict.Answer → plain.Answer
 answerOut a = record { code = a .code; count = a .count; lag = a .lag; place = a .place; writes = a .writes; tried = a .tried }
+
+abbrev readAnswerOut : reading.ReadAnswer → plainReading.ReadAnswer
+readAnswerOut r =
+    let a = r .answer in
+    record { code = a .code; count = a .count; lag = a .lag; place = a .place; writes = a .writes; tried = a .tried; bit = r .bits }
 
 abbrev partOut : doors.Part → plainPart.Part
 partOut p = record { code = p .code; start = p .start; length = p .size }
@@ -121,6 +129,9 @@ module _ {M : Type 1} (𝓤 : URA M) where
     pub nibble-read-one : Sole 𝓤 nibble_read.ended (nibble_read.clauses 𝓤 H A mem run) (λ κs r at. r)
     nibble-read-one _ _ _ _ _ _ _ = same (λ r. r)
 
+    pub mended-bits-one : Sole 𝓤 mended_bits.ended (mended_bits.clauses 𝓤 H A mem run) (λ κs r at. r)
+    mended-bits-one _ _ _ _ _ _ _ = same (λ r. r)
+
     pub laid-one : Sole 𝓤 laid.ended (laid.clauses 𝓤 H A mem run) (λ κs r at. r)
     laid-one _ _ _ _ _ _ _ = same (λ r. r)
 
@@ -162,7 +173,7 @@ module _ {M : Type 1} (𝓤 : URA M) where
     lyre-step-one _ _ _ _ _ _ _ = same (λ v. left (answerOut (v .says)) (v .leaves .cells) (v .leaves .lives))
 
     pub lyre-read-one : Sole 𝓤 lyre_read.ended (lyre_read.clauses 𝓤 H A mem run) (λ κs r at. r)
-    lyre-read-one _ _ _ _ _ _ _ = same answerOut
+    lyre-read-one _ _ _ _ _ _ _ = same readAnswerOut
 
     pub lyre-map-part-one : Sole 𝓤 lyre_map_part.ended (lyre_map_part.clauses 𝓤 H A mem run) (λ κs r at. r)
     lyre-map-part-one _ _ _ _ _ _ _ = same partOut

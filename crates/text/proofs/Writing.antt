@@ -1,7 +1,8 @@
--- The laws of writing into a lent text: no byte, one byte, one run after another, the next byte of a run, four runs.
+-- The laws of writing into a lent text: no byte, one byte, one run after another, the next byte of a run, four runs, the next of
+-- some lines.
 use Prim.Native.Nat.{ℕ, suc, _+_, _-_, _≤_, _<_, min}
 use mathlib.Core.Path.{_≡_, refl, sym, ap, _∙_}
-use mathlib.Core.List.{List, [], _∷_, _++_}
+use mathlib.Core.List.{List, [], _∷_, _++_, flatten, append-assoc, append-nil}
 use native.Mathlib.Nat.{add-zero, suc-add, add-suc}
 use native.Mathlib.Numerals.{add-one}
 use native.Mathlib.Omega.{arith}
@@ -9,7 +10,7 @@ use lib.ListN.{length, take, getD, set, length-append, length-take, length-drop}
 use lib.Seq.{sets, length-sets, sets-eq, take-suc}
 use Rattle.text.specs.Text.{equals, lineFeed, line, Wrote}
 
--- storing two runs, one after the other, is storing the two joined
+-- storing two runs, one after the other, is storing the two flatten
 sets-append : (xs ys text : List ℕ) (at : ℕ) → sets text at (xs ++ ys) ≡ sets (sets text at xs) (at + length xs) ys
 sets-append [] ys text at = rw add-zero
 sets-append (x ∷ xs) ys text at = rw (add-suc, ← suc-add) (sets-append xs ys (set text at x) (suc at))
@@ -93,3 +94,27 @@ module _ (ws xs ys zs : List ℕ) where
 pub length-line : (key value : List ℕ) → length (line key value) ≡ length key + length value + 2
 unfolding line
 length-line key value = length-four key (equals ∷ []) value (lineFeed ∷ []) ∙ omega arith
+
+-- lines of which the first `done` were written
+flatten-append : (xs ys : List (List ℕ)) → flatten (xs ++ ys) ≡ flatten xs ++ flatten ys
+unfolding flatten
+flatten-append [] ys = refl
+flatten-append (x ∷ xs) ys = ap (λ (rest : List ℕ). x ++ rest) (flatten-append xs ys) ∙ sym (append-assoc x (flatten xs) (flatten ys))
+
+flatten-next : (lines : List (List ℕ)) (done : ℕ) → done < length lines → flatten (take (done + 1) lines) ≡ flatten (take done lines) ++ getD lines done []
+unfolding flatten
+flatten-next lines done more = rw (add-one, take-suc lines done [] more) (flatten-append (take done lines) _ ∙ ap (λ (last : List ℕ). flatten (take done lines) ++ last) (append-nil (getD lines done [])))
+
+-- no line
+pub wrote-no-line : (text : List ℕ) (at : ℕ) → at ≤ length text → Wrote text at (flatten []) at text
+unfolding flatten
+wrote-no-line = wrote-none
+
+-- the next is written
+pub wrote-line : {before text after : List ℕ} {at next past : ℕ} (lines : List (List ℕ)) (done : ℕ) → done < length lines
+    → next + length (getD lines done []) ≤ length before
+    → Wrote before at (flatten (take done lines)) next text → Wrote text next (getD lines done []) past after
+    → Wrote before at (flatten (take (done + 1) lines)) past after
+wrote-line lines done more room first second =
+    rw (flatten-next lines done more)
+    (wrote-more (flatten (take done lines)) (getD lines done []) (simp length-append (omega (arith, room, first .ends))) first second)

@@ -1,0 +1,77 @@
+// Reads of chips with mended cells (document 02, P1). On setting A opened all data cells hold 80, the code of 0: cells 128 to 126
+// and 25 to 29 those of copy 1, nibbles 0 to 7, and 125 to 123 and 30 to 34 those of copy 2.
+use super::bench::END_A;
+use super::bench::SIZE_A;
+use super::chips::Chip;
+use super::chips::opened;
+use super::chips::set;
+use super::chips::set_both;
+use super::lines::say_mended;
+
+fn setting_a() -> Chip {
+    opened(SIZE_A, END_A)
+}
+
+// A byte one bit from the code of 0, two from that of 1, and one from that of 15, whose count is 10.
+fn one_nibble() {
+    say_mended(b"P1 80, read", setting_a());
+    say_mended(b"P1 81, read", set(setting_a(), 128, 0x81));
+    say_mended(b"P1 06 06, read", set_both(setting_a(), 128, 125, 0x06));
+    say_mended(
+        b"P1 06 0F, read",
+        set(set(setting_a(), 128, 0x06), 125, 0x0F),
+    );
+    say_mended(b"P1 FF FF, read", set_both(setting_a(), 128, 125, 0xFF));
+}
+
+// A cell counts once, though its nibble is lent to the other copy, where it is lost.
+fn lent_nibble() {
+    say_mended(
+        b"P1 81 01, read",
+        set(set(setting_a(), 128, 0x81), 125, 0x01),
+    );
+    say_mended(
+        b"P1 01 81, read",
+        set(set(setting_a(), 128, 0x01), 125, 0x81),
+    );
+}
+
+// A step that was stopped, with copy 1 at 5 and copy 2 at 4, has counts. Of a refusal they are zeros: 6 with the copies the
+// other way, 5 where another nibble is lost, and 3 where the mark is gone.
+fn lags_and_refusals() {
+    let stopped = set(set(setting_a(), 128, 0xCA), 125, 0xB1);
+    say_mended(b"P1 CA B1, read", stopped);
+    let apart = set(set(setting_a(), 128, 0xB1), 125, 0xCA);
+    say_mended(b"P1 B1 CA, read", apart);
+    say_mended(
+        b"P1 CA B1, nibble 7 lost, read",
+        set_both(stopped, 29, 34, 0x01),
+    );
+    say_mended(b"P1 CA B1, mark gone, read", set(stopped, 1, 0xFF));
+}
+
+// Nibble i of copy 1 wrong in bit i.
+fn each_bit() {
+    let chip = set(set(setting_a(), 128, 0x81), 127, 0x82);
+    let chip = set(set(chip, 126, 0x84), 25, 0x88);
+    let chip = set(set(chip, 26, 0x90), 27, 0xA0);
+    let chip = set(set(chip, 28, 0xC0), 29, 0x00);
+    say_mended(b"P1 each bit, read", chip);
+}
+
+// All sixteen cells wrong in bit 6.
+fn each_cell() {
+    let chip = set_both(set_both(setting_a(), 128, 125, 0xC0), 127, 124, 0xC0);
+    let chip = set_both(set_both(chip, 126, 123, 0xC0), 25, 30, 0xC0);
+    let chip = set_both(set_both(chip, 26, 31, 0xC0), 27, 32, 0xC0);
+    let chip = set_both(set_both(chip, 28, 33, 0xC0), 29, 34, 0xC0);
+    say_mended(b"P1 all C0, read", chip);
+}
+
+pub(crate) fn cases() {
+    one_nibble();
+    lent_nibble();
+    lags_and_refusals();
+    each_bit();
+    each_cell();
+}
