@@ -109,12 +109,12 @@ static void worn_row(void)
     row("step, setting A, pointers alike modulo 64", stepped, 16);
 }
 
-/* Bit 0 of copy 1's nibble 0 is wrong, and bit 7 of copy 2's nibble 7. */
+/* Bit 0 of copy 1's nibble 0 is wrong, and bit 6 of copy 2's nibble 7. */
 static void mended_row(void)
 {
     lay_blank();
     open_both(setting_a);
-    theirs.image[128] ^= 0x01, theirs.image[34] ^= 0x80;
+    theirs.image[128] ^= 0x01, theirs.image[34] ^= 0x40;
     memcpy(ours.image, theirs.image, sizeof ours.image);
     row("read, setting A, two cells mended", read_both(setting_a), 1);
 }

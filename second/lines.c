@@ -1,5 +1,5 @@
-/* The lines that crates/cases prints, worked out by the second maker: chips of document 01's bench list, and chips that are easy
-   to get wrong. The map is at 1 and the area starts at 25 where a case does not say otherwise. */
+/* The lines that crates/cases prints, worked out by the second maker: chips of document 01's bench list, chips that are easy to
+   get wrong, and those of later requests. The map is at 1 and the area starts at 25 where a case does not say otherwise. */
 
 #include "second.h"
 

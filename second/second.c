@@ -1,5 +1,5 @@
-/* The second maker's turn counter, written from document 01 and AN1449, with the choices of docs/DECISIONS.md where they leave
-   one, and meant to be read beside them. Each rule is spelled out where it is used, pointers are read anew from the map, and
+/* The second maker's turn counter, written from documents 01 and 02 and AN1449, with the choices of docs/DECISIONS.md where they
+   leave one, and meant to be read beside them. Each rule is spelled out where it is used, pointers are read anew from the map, and
    nothing is done for speed. Headings in brackets are those of document 01. */
 
 #include "second.h"

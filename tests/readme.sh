@@ -6,7 +6,7 @@ work=$(mktemp -d)
 trap 'rm -rf "$work"' EXIT
 
 command=$(sed -n 's/^    \(\.\/look [^ ]*\).*/\1/p' README.md)
-sed -n 's/^    \([a-z]*=.*\)/\1/p' README.md >"$work/shown"
+sed -n 's/^    \([a-z0-9]*=.*\)/\1/p' README.md >"$work/shown"
 $command >"$work/printed"
 diff "$work/shown" "$work/printed" || { echo "readme: $command prints something else (>) than the README shows (<)"; exit 1; }
 sed -n '/^```c$/,/^```$/{/^```/!p;}' README.md >"$work/program"

@@ -12,41 +12,38 @@ fn setting_a() -> Chip {
     opened(SIZE_A, END_A)
 }
 
-// A byte one bit from the code of 0, two from that of 1, and one from that of 15, whose count is 10.
+// With other bytes in the two cells of nibble 0.
+fn holding(first: u8, second: u8) -> Chip {
+    set(set(setting_a(), 128, first), 125, second)
+}
+
+fn say_holding(name: &[u8], first: u8, second: u8) {
+    say_mended(name, holding(first, second));
+}
+
+// 81 is the code of 0 with bit 0 wrong, 06 and 0F are that of 1 with bits 0 and 3 wrong, and FF is that of 15 with bit 7 wrong.
 fn one_nibble() {
-    say_mended(b"P1 80, read", setting_a());
-    say_mended(b"P1 81, read", set(setting_a(), 128, 0x81));
-    say_mended(b"P1 06 06, read", set_both(setting_a(), 128, 125, 0x06));
-    say_mended(
-        b"P1 06 0F, read",
-        set(set(setting_a(), 128, 0x06), 125, 0x0F),
-    );
-    say_mended(b"P1 FF FF, read", set_both(setting_a(), 128, 125, 0xFF));
+    say_holding(b"P1 80, read", 0x80, 0x80);
+    say_holding(b"P1 81, read", 0x81, 0x80);
+    say_holding(b"P1 06 06, read", 0x06, 0x06);
+    say_holding(b"P1 06 0F, read", 0x06, 0x0F);
+    say_holding(b"P1 FF FF, read", 0xFF, 0xFF);
 }
 
 // A cell counts once, though its nibble is lent to the other copy, where it is lost.
 fn lent_nibble() {
-    say_mended(
-        b"P1 81 01, read",
-        set(set(setting_a(), 128, 0x81), 125, 0x01),
-    );
-    say_mended(
-        b"P1 01 81, read",
-        set(set(setting_a(), 128, 0x01), 125, 0x81),
-    );
+    say_holding(b"P1 81 01, read", 0x81, 0x01);
+    say_holding(b"P1 01 81, read", 0x01, 0x81);
 }
 
-// A step that was stopped, with copy 1 at 5 and copy 2 at 4, has counts. Of a refusal they are zeros: 6 with the copies the
-// other way, 5 where another nibble is lost, and 3 where the mark is gone.
+// A step that was stopped, with copy 1 at 5 and copy 2 at 4, has counts. Those of a refusal are zeros: of 6, with the copies the
+// other way, of 5, where another nibble is lost, and of 3, where the mark is gone.
 fn lags_and_refusals() {
-    let stopped = set(set(setting_a(), 128, 0xCA), 125, 0xB1);
+    let stopped = holding(0xCA, 0xB1);
     say_mended(b"P1 CA B1, read", stopped);
-    let apart = set(set(setting_a(), 128, 0xB1), 125, 0xCA);
-    say_mended(b"P1 B1 CA, read", apart);
-    say_mended(
-        b"P1 CA B1, nibble 7 lost, read",
-        set_both(stopped, 29, 34, 0x01),
-    );
+    say_holding(b"P1 B1 CA, read", 0xB1, 0xCA);
+    let lost = set_both(stopped, 29, 34, 0x01);
+    say_mended(b"P1 CA B1, nibble 7 lost, read", lost);
     say_mended(b"P1 CA B1, mark gone, read", set(stopped, 1, 0xFF));
 }
 

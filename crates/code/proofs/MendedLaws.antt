@@ -1,4 +1,5 @@
 -- The laws of mended bits (document 02, P1).
+--   tally-of-bits  16 bytes are mended in each of the bits 0 to 7
 --   many-most      of n numbers the test holds of at most n
 --   one-more       a count of one bit more
 --   counts-same    readings that agree give the same counts
@@ -12,16 +13,18 @@ use native.Mathlib.Omega.{arith}
 use native.Mathlib.Decide.{ℕ-discrete}
 use native.Mathlib.Nat.{add-zero}
 use borrow.Author.Tests.{eq-eqb, ne-eqb}
+use lib.Count.{onesIn, trailingZeros}
 use lib.Dec.{eqb}
 use lib.ListN.{length, getD, set}
 use lib.Seq.{getD-set-same, getD-set-other}
 use Rattle.code.specs.declared.reading.Reading.{Reading}
 use Rattle.code.specs.declared.reading.Reading.the-variants.{Clean, Mended, Lost}
+use Rattle.code.specs.Codes.{codes, codeOf}
 use Rattle.code.specs.Readings.{readingOf}
 use Rattle.code.specs.Tabulate.{tabulate}
 use Rattle.code.specs.Mended.{mendedIn, howMany, bitCounts, noBits}
 use Rattle.code.proofs.TabulateLaws.{agree, alike}
-use Rattle.code.proofs.ReadingLaws.{mended-flips}
+use Rattle.code.proofs.QuickLaws.{quickReading, reading-quick}
 
 -- ---- numbers of which a test holds
 
@@ -64,6 +67,11 @@ counts-same n one other same = alike _ _ 8 (λ i l. many-same n _ _ (λ k m. ap 
 pub counts-none : (n : ℕ) (reading : ℕ → Reading) → ((k i : ℕ) → k < n → mendedIn i (reading k) ≡ false) → bitCounts n reading ≡ noBits
 unfolding bitCounts
 counts-none n reading none = alike _ _ 8 (λ i l. many-none n _ (λ k m. none k i m))
+
+-- 16 bytes are mended in each of the bits 0 to 7
+pub tally-of-bits : bitCounts 256 readingOf ≡ tabulate (λ i. 16) 0 8
+unfolding codes codeOf onesIn trailingZeros mendedIn howMany bitCounts
+tally-of-bits = counts-same 256 readingOf quickReading reading-quick
 
 -- ---- their sum
 

@@ -1,6 +1,8 @@
 -- The nearest-code rule, computed quickly: the bits of a byte are counted in eight steps, and not in as many as the byte is large.
 --   quickNear       the nibbles whose codes differ from a byte in just k bits
 --   by-near         what is made of the nibbles at no and at one bit is the same by the rule and quickly
+--   quickReading    the reading of a byte
+--   reading-quick   it is that by the rule
 --   quickEntry      the entry of a byte
 --   entries-quick   the table holds these entries
 use mathlib.Core.Path.{_≡_, refl, ap, _∙_}
@@ -13,8 +15,9 @@ use lib.Bits.{bitXor, xor-lt}
 use lib.Count.{ones, onesIn, ones-step}
 use lib.Dec.{eqb}
 use lib.Pow.{shr-lt}
+use Rattle.code.specs.declared.reading.Reading.{Reading}
 use Rattle.code.specs.Codes.{codes, distance}
-use Rattle.code.specs.Readings.{keep, nearFrom, near}
+use Rattle.code.specs.Readings.{keep, nearFrom, near, nearest, readingOf}
 use Rattle.code.specs.Entries.{entryFrom, entryOf, entries}
 use Rattle.code.specs.Tabulate.{tabulate}
 use Rattle.code.proofs.TabulateLaws.{alike}
@@ -55,6 +58,15 @@ near-quick k b small = from-quick k b 0 codes small (search needs)
 -- what is made of the nibbles at no and at one bit is the same by the rule and quickly
 pub by-near : {A : Type 0} (make : List ℕ → List ℕ → A) (b : ℕ) → b < 256 → make (near 0 b) (near 1 b) ≡ make (quickNear 0 b) (quickNear 1 b)
 by-near make b small = λ t. make (near-quick 0 b small t) (near-quick 1 b small t)
+
+-- the reading of the byte b
+abbrev pub quickReading : ℕ → Reading
+quickReading b = nearest b (quickNear 0 b) (quickNear 1 b)
+
+-- it is that by the rule
+pub reading-quick : (b : ℕ) → b < 256 → readingOf b ≡ quickReading b
+unfolding readingOf
+reading-quick b = by-near (nearest b) b
 
 -- the entry of the byte b
 abbrev pub quickEntry : ℕ → ℕ

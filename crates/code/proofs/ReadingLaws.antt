@@ -1,7 +1,6 @@
 -- The laws of readings (document 01, "Nibbles, bytes and Gray words").
 --   tally               how many readings of a list are clean, mended and lost
 --   tally-of-bytes      of the 256 bytes 16 are clean, 128 mended and 112 lost
---   tally-of-bits       16 bytes are mended in each of the bits 0 to 7
 --   no-twofold          no byte is one bit from two codes
 --   entry-at            the table holds at each byte its entry
 --   entry-reading       the entry of a byte stands for its reading
@@ -33,7 +32,7 @@ use Rattle.code.specs.Mended.{mendedIn}
 use Rattle.code.specs.Nibbles.{nibbleOf}
 use Rattle.code.specs.Tabulate.{tabulate}
 use Rattle.code.proofs.TabulateLaws.{at, agree, alike}
-use Rattle.code.proofs.QuickLaws.{quickNear, by-near}
+use Rattle.code.proofs.QuickLaws.{quickNear, by-near, quickReading, reading-quick}
 use Rattle.code.proofs.NibbleLaws.{nibble-small}
 use borrow.Author.Tests.{lt-ltb}
 
@@ -46,28 +45,10 @@ tally (Clean d ∷ rs) = let n = tally rs in (n .0 + 1, n .1, n .2)
 tally (Mended d bit ∷ rs) = let n = tally rs in (n .0, n .1 + 1, n .2)
 tally (Lost ∷ rs) = let n = tally rs in (n .0, n .1, n .2 + 1)
 
--- the readings of all bytes
-abbrev readings : List Reading
-readings = tabulate readingOf 0 256
-
-quick-readings : readings ≡ tabulate (λ b. nearest b (quickNear 0 b) (quickNear 1 b)) 0 256
-unfolding readingOf
-quick-readings = alike readingOf (λ b. nearest b (quickNear 0 b) (quickNear 1 b)) 256 (λ b. by-near (nearest b) b)
-
 -- of the 256 bytes 16 are clean, 128 mended and 112 lost
-pub tally-of-bytes : tally readings ≡ (16, 128, 112)
-unfolding codes codeOf onesIn trailingZeros
-tally-of-bytes = ap tally quick-readings
-
--- how many readings of a list were mended in bit i
-abbrev pub tallyIn : ℕ → List Reading → ℕ
-tallyIn i [] = 0
-tallyIn i (r ∷ rs) = cond (mendedIn i r) 1 0 + tallyIn i rs
-
--- 16 bytes are mended in each of the bits 0 to 7
-pub tally-of-bits : (i : ℕ) → i < 8 → tallyIn i readings ≡ 16
-unfolding codes codeOf onesIn trailingZeros mendedIn
-tally-of-bits i l = ap (tallyIn i) quick-readings ∙ agree (λ i. tallyIn i (tabulate (λ b. nearest b (quickNear 0 b) (quickNear 1 b)) 0 256)) (λ i. 16) 8 refl i l
+pub tally-of-bytes : tally (tabulate readingOf 0 256) ≡ (16, 128, 112)
+unfolding codes onesIn
+tally-of-bytes = ap tally (alike readingOf quickReading 256 reading-quick)
 
 -- the byte that a reading is of: the code, or the code with the bit flipped; b where it is lost
 abbrev byteOf : ℕ → Reading → ℕ

@@ -95,6 +95,11 @@ pub length-line : (key value : List ℕ) → length (line key value) ≡ length 
 unfolding line
 length-line key value = length-four key (equals ∷ []) value (lineFeed ∷ []) ∙ omega arith
 
+-- two runs, one after the other, that end within the text
+pub wrote-on : {before between after : List ℕ} {at middle next : ℕ} (xs ys : List ℕ) → next ≤ length before
+    → Wrote before at xs middle between → Wrote between middle ys next after → Wrote before at (xs ++ ys) next after
+wrote-on xs ys within first second = wrote-more xs ys (simp length-append (omega (arith, within, first .ends, second .ends))) first second
+
 -- lines of which the first `done` were written
 flatten-append : (xs ys : List (List ℕ)) → flatten (xs ++ ys) ≡ flatten xs ++ flatten ys
 unfolding flatten
@@ -103,7 +108,9 @@ flatten-append (x ∷ xs) ys = ap (λ (rest : List ℕ). x ++ rest) (flatten-app
 
 flatten-next : (lines : List (List ℕ)) (done : ℕ) → done < length lines → flatten (take (done + 1) lines) ≡ flatten (take done lines) ++ getD lines done []
 unfolding flatten
-flatten-next lines done more = rw (add-one, take-suc lines done [] more) (flatten-append (take done lines) _ ∙ ap (λ (last : List ℕ). flatten (take done lines) ++ last) (append-nil (getD lines done [])))
+flatten-next lines done more =
+    rw (add-one, take-suc lines done [] more)
+    (flatten-append (take done lines) _ ∙ ap (λ (last : List ℕ). flatten (take done lines) ++ last) (append-nil (getD lines done [])))
 
 -- no line
 pub wrote-no-line : (text : List ℕ) (at : ℕ) → at ≤ length text → Wrote text at (flatten []) at text
@@ -111,10 +118,7 @@ unfolding flatten
 wrote-no-line = wrote-none
 
 -- the next is written
-pub wrote-line : {before text after : List ℕ} {at next past : ℕ} (lines : List (List ℕ)) (done : ℕ) → done < length lines
-    → next + length (getD lines done []) ≤ length before
+pub wrote-line : {before text after : List ℕ} {at next past : ℕ} (lines : List (List ℕ)) (done : ℕ) → done < length lines → past ≤ length before
     → Wrote before at (flatten (take done lines)) next text → Wrote text next (getD lines done []) past after
     → Wrote before at (flatten (take (done + 1) lines)) past after
-wrote-line lines done more room first second =
-    rw (flatten-next lines done more)
-    (wrote-more (flatten (take done lines)) (getD lines done []) (simp length-append (omega (arith, room, first .ends))) first second)
+wrote-line lines done more within first second = rw (flatten-next lines done more) (wrote-on _ _ within first second)

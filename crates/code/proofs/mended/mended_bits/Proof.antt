@@ -1,14 +1,13 @@
 -- `mended::mended_bits` meets its contract: the bytes passed are counted.
 use Prim.Native.Nat.{ℕ, _-_, _≤_, _<_}
 use mathlib.Core.Path.{_≡_, refl, ap, _∙_}
-use mathlib.Core.Bool.{cond}
 use mathlib.Core.List.{List}
 use borrow.Author.Needs.{needs}
 use native.Mathlib.Omega.{arith}
 use native.Mathlib.Numerals.{add-one}
 use lib.ListN.{length, getD}
 use Rattle.code.specs.Readings.{readingOf}
-use Rattle.code.specs.Entries.{entryOf, readingAt}
+use Rattle.code.specs.Entries.{readingAt}
 use Rattle.code.specs.Mended.{mendedIn, howMany, bitCounts}
 use Rattle.code.proofs.TabulateLaws.{at, filled}
 use Rattle.code.proofs.ReadingLaws.{entry-at, entry-reading}

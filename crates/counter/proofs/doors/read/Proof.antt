@@ -1,9 +1,6 @@
 -- `doors::read` keeps its promise.
 use mathlib.Core.Path.{ap, _∙_}
-use mathlib.Core.List.{List}
-use Prim.Native.Nat.{ℕ}
 use borrow.Author.Needs.{needs}
-use Rattle.counter.specs.declared.verdict.Answer.{Answer}
 use Rattle.counter.specs.declared.verdict.Verdict.{Verdict}
 use Rattle.counter.specs.Verdict.{answerOf}
 use Rattle.counter.specs.Doors.{readOf}

@@ -1,9 +1,7 @@
 -- `fill` meets its contract: the lines of the answer, and those of the bits behind them.
-use Prim.Native.Nat.{_≤_}
 use native.Mathlib.Omega.{arith}
 use borrow.Author.Needs.{needs}
-use lib.ListN.{length, length-append}
-use Rattle.text.proofs.Writing.{wrote-within, wrote-more}
+use Rattle.text.proofs.Writing.{wrote-within, wrote-on}
 use Rattle.look.specs.Look.{lookText}
 use Rattle.look.proofs.lines.fill.Statement.{statement}
 use Rattle.look.proofs.lines.fill.Tie as tie
@@ -17,7 +15,7 @@ returns c =
     let bits = c .before .before in
     let answered = bits .before .before .before .before .fill-answer in
     let within = wrote-within (omega (arith, answered .ensures .1)) (bits .write-bits .ensures) in
-    wrote-more _ _ (simp length-append (omega (arith, within, answered .ensures .0 .ends, bits .write-bits .ensures .ends))) (answered .ensures .0) (bits .write-bits .ensures)
+    wrote-on _ _ (omega (arith, within)) (answered .ensures .0) (bits .write-bits .ensures)
 
 pub fill-spec : {M : Type 1} → statement M
 fill-spec =

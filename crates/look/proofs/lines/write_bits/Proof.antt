@@ -1,10 +1,10 @@
 -- `write_bits` meets its contract. The invariant of its loop: the lines of the bits passed were written.
-use Prim.Native.Nat.{ℕ, _+_, _-_, _*_, _≤_, _<_}
-use mathlib.Core.Path.{_≡_, refl, sym, _∙_}
+use Prim.Native.Nat.{_+_, _-_, _*_, _≤_}
+use mathlib.Core.Path.{_≡_, refl, _∙_}
 use mathlib.Core.List.{[], flatten}
 use native.Mathlib.Omega.{arith}
 use borrow.Author.Needs.{needs}
-use lib.ListN.{length, getD, take}
+use lib.ListN.{length, take}
 use Rattle.code.proofs.TabulateLaws.{at}
 use Rattle.text.specs.Text.{Wrote}
 use Rattle.text.proofs.Writing.{wrote-no-line, wrote-line}
@@ -37,11 +37,12 @@ loop-again c =
     let start = turn .before .before .before in
     let bits = start .args .t1 in
     let this = at (bitLine bits) [] 8 (loop .bit) (omega arith) in
+    let ends : call .write-bit .result ≤ start .args .at + (loop .bit + 1) * bitLongest = omega (arith, call .write-bit .ensures .1, loop .inv .ends) in
     record {
       most = omega arith;
-      ends = omega (arith, call .write-bit .ensures .1, loop .inv .ends);
+      ends = ends;
       same = call .write-bit .kept .1 .1 .0 ∙ loop .inv .same;
-      wrote = wrote-line (bitLines bits) (loop .bit) (omega arith) (rw this (omega (arith, call .write-bit .ensures .0 .ends, call .write-bit .ensures .1, loop .inv .ends, start .pre))) (loop .inv .wrote) (rw this (call .write-bit .ensures .0));
+      wrote = wrote-line (bitLines bits) (loop .bit) (omega arith) (omega (arith, ends, start .pre)) (loop .inv .wrote) (rw this (call .write-bit .ensures .0));
     }
 
 same-length : tie.Need-same-length Inv-loop μ-loop
