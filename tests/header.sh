@@ -32,19 +32,10 @@ diff "$work/source" "$work/header" || { echo 'header: lyre.h (>) is not what the
 $compiler -fsyntax-only -x c - <<C
 #include "$root/include/lyre.h"
 #define AT(type, field, offset) _Static_assert(offsetof(type, field) == offset, #type "." #field)
-AT(lyre_answer, code, 0);
-AT(lyre_answer, count, 4);
-AT(lyre_answer, lag, 8);
-AT(lyre_answer, place, 16);
-AT(lyre_answer, writes, 24);
-AT(lyre_answer, tried, 32);
+#define SIX(type) AT(type, code, 0); AT(type, count, 4); AT(type, lag, 8); AT(type, place, 16); AT(type, writes, 24); AT(type, tried, 32)
+SIX(lyre_answer);
 _Static_assert(sizeof(lyre_answer) == 40, "lyre_answer");
-AT(lyre_read_answer, code, 0);
-AT(lyre_read_answer, count, 4);
-AT(lyre_read_answer, lag, 8);
-AT(lyre_read_answer, place, 16);
-AT(lyre_read_answer, writes, 24);
-AT(lyre_read_answer, tried, 32);
+SIX(lyre_read_answer);
 AT(lyre_read_answer, bit, 40);
 _Static_assert(sizeof(lyre_read_answer) == 72, "lyre_read_answer");
 AT(lyre_part, code, 0);

@@ -4,7 +4,7 @@ use mathlib.Core.Path.{_≡_, sym, ap, _∙_}
 use lib.ListN.{take, drop}
 use native.Mathlib.Omega.{arith}
 use borrow.Author.Needs.{needs}
-use Rattle.counter.specs.Layout.{two}
+use Rattle.counter.specs.Layout.{two, mapCells}
 use Rattle.counter.specs.Map.{mapIn}
 use Rattle.counter.proofs.Settings.{good-placed}
 use Rattle.counter.proofs.GoodVerdicts.{CellsGood, cells-good, good-reaches}
@@ -27,7 +27,7 @@ cells-requires c κs = let placed = good-placed two _ _ (facts (c .before) .good
 
 -- the cells are the map
 map : (c : tie.After-cells) → let s = start (c .before .before) .args in c .cells .result .now ≡ mapIn two (s .p) (s .image .now)
-map c = c .cells .ensures ∙ ap (λ (place : ℕ). take 24 (drop place (start (c .before .before) .args .image .now))) (c .before .at .ensures)
+map c = c .cells .ensures ∙ ap (λ (place : ℕ). take (mapCells two) (drop place (start (c .before .before) .args .image .now))) (c .before .at .ensures)
 
 counted-requires : tie.Need-counted-requires
 counted-requires c κs = rw (map c) (good-reaches (facts (c .before .before)))
