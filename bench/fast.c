@@ -5,6 +5,7 @@
 #include "fast.h"
 
 #include <stdbool.h>
+#include <string.h>
 
 #define unusual(condition) __builtin_expect(!!(condition), 0)
 #define aside __attribute__((noinline))
@@ -33,7 +34,19 @@ static const uint8_t readings[256] = {
     0x1E, 0x20, 0x20, 0x16, 0x20, 0x1B, 0x1D, 0x20, 0x0E, 0x1E, 0x1E, 0x20, 0x1E, 0x20, 0x20, 0x1F,
 };
 
-enum { not_clean = 0x30, mended = 0x10, lost = 0x20 };
+enum { not_clean = 0x30, lost = 0x20 };
+
+/* For each byte the number, from 1, of the bit in which it is mended; else 0. */
+static const uint8_t wrong_bits[256] = {
+    8, 0, 0, 3, 0, 2, 1, 0, 0, 5, 6, 0, 7, 0, 0, 4, 0, 4, 7, 0, 6, 0, 0, 5, 1, 0, 0, 2, 0, 3, 8, 0,
+    0, 7, 4, 0, 5, 0, 0, 6, 2, 0, 0, 1, 0, 8, 3, 0, 3, 0, 0, 8, 0, 1, 2, 0, 0, 6, 5, 0, 4, 0, 0, 7,
+    0, 6, 5, 0, 4, 0, 0, 7, 3, 0, 0, 8, 0, 1, 2, 0, 2, 0, 0, 1, 0, 8, 3, 0, 0, 7, 4, 0, 5, 0, 0, 6,
+    1, 0, 0, 2, 0, 3, 8, 0, 0, 4, 7, 0, 6, 0, 0, 5, 0, 5, 6, 0, 7, 0, 0, 4, 8, 0, 0, 3, 0, 2, 1, 0,
+    0, 1, 2, 0, 3, 0, 0, 8, 4, 0, 0, 7, 0, 6, 5, 0, 5, 0, 0, 6, 0, 7, 4, 0, 0, 8, 3, 0, 2, 0, 0, 1,
+    6, 0, 0, 5, 0, 4, 7, 0, 0, 3, 8, 0, 1, 0, 0, 2, 0, 2, 1, 0, 8, 0, 0, 3, 7, 0, 0, 4, 0, 5, 6, 0,
+    7, 0, 0, 4, 0, 5, 6, 0, 0, 2, 1, 0, 8, 0, 0, 3, 0, 3, 8, 0, 1, 0, 0, 2, 6, 0, 0, 5, 0, 4, 7, 0,
+    0, 8, 3, 0, 2, 0, 0, 1, 5, 0, 0, 6, 0, 7, 4, 0, 4, 0, 0, 7, 0, 6, 5, 0, 0, 1, 2, 0, 3, 0, 0, 8,
+};
 
 /* The highest High and the lowest Low pointer; the spares lie between them. */
 typedef struct {
@@ -135,22 +148,16 @@ static inline uint32_t count_of(uint32_t word)
     return word ^ word >> 16;
 }
 
-static inline void count_mended(uint32_t *bits, uint8_t byte, uint32_t reading)
-{
-    if (reading & mended)
-        bits[__builtin_ctz(byte ^ codes[reading & 15])]++;
-}
-
-/* Where there are bits, each mended cell is counted in them. */
-static inline lyre_answer weigh(const uint8_t *image, const uint8_t *map, uint32_t *bits)
+/* Where there are counts, each cell adds to that of its wrong bit, from 1, and to the first where it has none. */
+static inline lyre_answer weigh(const uint8_t *image, const uint8_t *map, uint32_t *counts)
 {
     uint32_t word1 = 0, word2 = 0;
     for (unsigned nibble = 0; nibble < 8; nibble++) {
         uint8_t in1 = image[pointer_of(map, 0, nibble)], in2 = image[pointer_of(map, 1, nibble)];
         uint32_t one = readings[in1], other = readings[in2];
-        if (bits != NULL) {
-            count_mended(bits, in1, one);
-            count_mended(bits, in2, other);
+        if (counts != NULL) {
+            counts[wrong_bits[in1]]++;
+            counts[wrong_bits[in2]]++;
         }
         if (one == lost) {
             if (other == lost)
@@ -175,12 +182,11 @@ static aside lyre_answer read_damaged(const uint8_t *image, const uint8_t *map)
 
 static aside lyre_read_answer read_mended(const uint8_t *image, const uint8_t *map)
 {
-    lyre_read_answer answer = {0};
-    lyre_answer found = weigh(image, map, answer.bit);
-    if (found.code != 0)
-        return (lyre_read_answer){.code = found.code, .lag = found.lag, .place = found.place};
-    answer.count = found.count;
-    answer.lag = found.lag;
+    uint32_t counts[9] = {0};
+    lyre_answer found = weigh(image, map, counts);
+    lyre_read_answer answer = {.code = found.code, .count = found.count, .lag = found.lag, .place = found.place};
+    if (found.code == 0)
+        memcpy(answer.bit, counts + 1, sizeof answer.bit);
     return answer;
 }
 

@@ -1,5 +1,5 @@
-/* The doors for C of the turn counter: a 32-bit count kept in an EEPROM image by the scheme of AN1449, as document 01 sets it
-   down. The archive is liblyre.a.
+/* The doors for C of the turn counter: a 32-bit count kept in an EEPROM image by the scheme of AN1449, as documents 01 and 02 set
+   it down. The archive is liblyre.a.
 
    What a caller owes:
    - the archive holds x86-64 code, called by the System V convention: the stack is aligned to 16 bytes at the call, as a C

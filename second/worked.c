@@ -1,5 +1,5 @@
-/* Cases whose outcome document 01 or its bench list gives in figures. They hold the second maker to the document, and the
-   archive to both. Numbers follow the bench list up to 17; those from 18 on are our own. */
+/* Cases whose outcome document 01 or its bench list gives in figures, or follows from document 02. They hold the second maker to the
+   documents, and the archive to both. Numbers follow the bench list up to 17; those from 18 on are our own. */
 
 #include "compare.h"
 
@@ -26,30 +26,30 @@ static void open_a(void)
 }
 
 /* Setting A opened has nibble 0 of copy 1 in cell 128 and of copy 2 in cell 125. */
-static second_answer read_with(uint8_t in1, uint8_t in2)
+static second_read_answer read_with(uint8_t in1, uint8_t in2)
 {
     open_a();
     set_cell(128, in1);
     set_cell(125, in2);
-    return call(door_read);
+    return call_read();
 }
 
 static void readings(void)
 {
     begin(9);
-    second_answer answer = read_with(0xCB, 0xB3);
+    second_answer answer = read_with(0xCB, 0xB3).answer;
     expect(answer.code == 0 && answer.count == 5 && answer.lag == 1, "CB over B3 is count 5, lag 1");
     begin(10);
-    answer = read_with(0xB3, 0xCB);
+    answer = read_with(0xB3, 0xCB).answer;
     expect(answer.code == 6 && answer.lag == -1, "B3 over CB is refused 6, lag -1");
     begin(11);
-    answer = read_with(0xCB, 0x19);
+    answer = read_with(0xCB, 0x19).answer;
     expect(answer.code == 6 && answer.lag == 2, "CB over 19 is refused 6, lag 2");
     begin(12);
-    answer = read_with(0x01, 0xB3);
+    answer = read_with(0x01, 0xB3).answer;
     expect(answer.code == 0 && answer.count == 4 && answer.lag == 0, "01 over B3 is count 4");
     begin(13);
-    answer = read_with(0x01, 0x01);
+    answer = read_with(0x01, 0x01).answer;
     expect(answer.code == 5 && answer.place == 0, "01 twice is refused 5");
     begin(18);
     open_a();
@@ -58,7 +58,7 @@ static void readings(void)
     expect(answer.code == 6 && answer.lag == -4294967295, "0 over 4294967295 is no lag of 1");
 }
 
-/* Document 02, P1: setting A opened with other bytes in the two cells of nibble 0, and how many cells were mended in a bit. */
+/* Document 02, P1: bytes in the two cells of nibble 0, and how many cells were mended in each bit. */
 static void mended(void)
 {
     static const struct {
@@ -73,10 +73,7 @@ static void mended(void)
     };
     begin(27);
     for (size_t i = 0; i < sizeof tries / sizeof *tries; i++) {
-        open_a();
-        set_cell(128, tries[i].in1);
-        set_cell(125, tries[i].in2);
-        second_read_answer read = call_read();
+        second_read_answer read = read_with(tries[i].in1, tries[i].in2);
         expect(read.answer.code == tries[i].code && read.answer.count == tries[i].count &&
                    memcmp(read.bit, tries[i].bit, sizeof read.bit) == 0,
                "the bits that were mended");

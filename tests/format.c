@@ -58,7 +58,7 @@ static void print_read(lyre_read_answer read)
     print_answer((lyre_answer){read.code, read.count, read.lag, read.place, read.writes, read.tried});
 }
 
-static void print_bits(lyre_read_answer read)
+static void print_counts(lyre_read_answer read)
 {
     for (int bit = 0; bit < 8; bit++)
         printf(" %" PRIu32, read.bit[bit]);
@@ -91,7 +91,7 @@ static void print_codes(void)
 }
 
 /* Of all bytes in one data cell, how many were mended in each bit. */
-static void print_mended(void)
+static void print_bits(void)
 {
     unsigned mended[8] = {0};
     for (int byte = 0; byte < 256; byte++) {
@@ -196,8 +196,8 @@ static bool do_word(const char *word)
         print_answer(step_it());
     else if (strcmp(word, "read") == 0)
         print_read(read_it());
-    else if (strcmp(word, "mended") == 0)
-        print_bits(read_it());
+    else if (strcmp(word, "counts") == 0)
+        print_counts(read_it());
     else if (strcmp(word, "call") == 0)
         printf(" code count lag place writes tried");
     else if (strcmp(word, "part") == 0)
@@ -213,7 +213,7 @@ static bool do_word(const char *word)
     else if (strcmp(word, "bytes") == 0)
         print_readings();
     else if (strcmp(word, "bits") == 0)
-        print_mended();
+        print_bits();
     else
         fail("no such word", word);
     return true;

@@ -1,4 +1,4 @@
-// A line for each case: its name, the answer's six numbers and, where they say more, some cells.
+// A line for each case: its name, the answer's six numbers and, where they say more, some cells, or the counts of mended bits.
 use super::chips::Chip;
 use super::chips::blank;
 use super::chips::cell;

@@ -1,4 +1,4 @@
--- The laws of readings (document 01, "Nibbles, bytes and Gray words").
+-- The laws of readings (document 01, "Nibbles, bytes and Gray words"; document 02, P1).
 --   tally               how many readings of a list are clean, mended and lost
 --   tally-of-bytes      of the 256 bytes 16 are clean, 128 mended and 112 lost
 --   no-twofold          no byte is one bit from two codes

@@ -18,6 +18,6 @@ codeOf d = getD codes (d % 16) 0
 unfoldable pub distance : ℕ → ℕ → ℕ
 distance a b = ones (bitXor a b)
 
--- the number of the bit in which two bytes differ, 0 (lowest) to 7; of several the lowest
+-- of two bytes that differ in one bit, its number, 0 (lowest) to 7
 abbrev pub differsAt : ℕ → ℕ → ℕ
 differsAt a b = trailingZeros 8 (bitXor a b)

@@ -1,14 +1,12 @@
 -- What a good verdict says: no refusal's test failed, and the count is one of 32 bits.
 --   unless-good, found-good   a test passed on the way to a count
 --   CellsGood, cells-good     what a good verdict of an image says
---   good-reaches              its map's pointers are cells of it
---   VerdictGood, verdict-good and of a chip
+--   VerdictGood, verdict-good  and of a chip
 --   verdict-room              a reading is not refused for want of a spare
 use Prim.Native.Nat.{ℕ, _-_, _^_, _<_}
 use mathlib.Core.Path.{_≡_, refl}
 use mathlib.Core.Bool.{Bool, true, false, cond, true≢false}
 use mathlib.Core.List.{List}
-use native.Mathlib.Omega.{arith}
 use lib.IntN.{ℤ, pos, _-ℤ_}
 use lib.ListN.{length}
 use borrow.Author.Tests.{eqb-true}
@@ -25,15 +23,12 @@ use Rattle.counter.specs.declared.verdict.Refusal.the-variants.{BadLengt
 use Rattle.counter.specs.declared.verdict.Verdict.{Verdict}
 use Rattle.counter.specs.declared.verdict.Verdict.the-variants.{Good, Refused}
 use Rattle.code.specs.Tabulate.{tabulate}
-use Rattle.counter.specs.Layout.{Layout, two, slots}
+use Rattle.counter.specs.Layout.{Layout, slots}
 use Rattle.counter.specs.Slots.{lowest}
 use Rattle.counter.specs.Places.{lengthGood, placesGood, livesGood}
 use Rattle.counter.specs.Map.{mapIn, marked, pointerOf, sound}
 use Rattle.counter.specs.Reading.{dataAt, nibbleIn, countIn, close, decide, someTwofold, lostAt, unless, onFound, weigh, examine, verdictOf}
 use Rattle.counter.specs.Doors.{chipVerdict}
-use Rattle.counter.specs.Inside.{Reaches}
-use Rattle.counter.proofs.Settings.{good-placed}
-use Rattle.counter.proofs.MapBytes.{map-whole}
 use Rattle.counter.proofs.SoundPointers.{Sound, test-sound}
 use Rattle.counter.proofs.Ready.{pointers, dataOf, Ready}
 
@@ -89,11 +84,6 @@ cells-good layout p cells e =
       record { long = h₁ .0; good = h₂ .0; marks = h₃ .0; sound = test-sound layout p (pointerOf map) (h₄ .0) },
       weigh-good layout (dataAt cells map) (h₄ .1),
     )
-
-pub good-reaches : {p : Places} {cells : List ℕ} → CellsGood two p cells → Reaches cells (mapIn two p cells)
-good-reaches {p} {cells} facts =
-    let placed = good-placed two _ _ (facts .good) in
-    (map-whole cells placed, λ k l. omega (arith, placed, facts .sound .inside k l .to))
 
 pub record VerdictGood (layout : Layout) (p : Places) (c : ℕ) (s : Chip) : Type 0 where
   pub ready : Ready layout p s

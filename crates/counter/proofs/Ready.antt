@@ -9,20 +9,23 @@
 --   inside-cell               a cell of the area is a cell of the image
 --   apart-map                 and none of the map
 --   start-fits                the area starts before it ends
+--   sound-reaches             sound pointers are cells of the image
 use Prim.Native.Nat.{ℕ, _+_, _-_, _≤_, _<_}
 use mathlib.Core.Path.{_≡_, refl, sym, _∙_}
 use mathlib.Core.Bool.{true}
+use mathlib.Core.List.{List}
 use mathlib.Core.Logic.{_⊎_}
 use native.Mathlib.Omega.{arith}
 use lib.ListN.{length}
 use Rattle.cells.specs.Chip.{Chip, cellAt, Paired, Kept}
 use Rattle.counter.specs.declared.places.Places.{Places}
-use Rattle.counter.specs.Layout.{Layout, mapCells}
+use Rattle.counter.specs.Layout.{Layout, two, slots, mapCells}
 use Rattle.counter.specs.Places.{lengthGood, placesGood}
 use Rattle.counter.specs.Map.{mapIn, byteAt, pointerOf}
+use Rattle.counter.specs.Inside.{Reaches}
 use Rattle.counter.proofs.Settings.{Placed, good-placed, map-outside}
-use Rattle.counter.proofs.SoundPointers.{Inside}
-use Rattle.counter.proofs.MapBytes.{map-byte, map-same}
+use Rattle.counter.proofs.SoundPointers.{Inside, Sound}
+use Rattle.counter.proofs.MapBytes.{map-byte, map-same, map-whole}
 
 abbrev pub pointers : Layout → Places → Chip → ℕ → ℕ
 pointers layout p s = pointerOf (mapIn layout p (s .cells))
@@ -77,3 +80,7 @@ module _ {layout : Layout} {p : Places} {s : Chip} (ready : Ready layout p s) wh
   map-kept {t} kept =
       map-same layout p (t .cells) (s .cells) (kept .cells-length)
       (λ j l. kept .cell (p .map + j) (λ i. map-outside ready-placed j (p .map + j) l (i .from) (i .to) refl))
+
+-- sound pointers are cells of the image
+pub sound-reaches : {p : Places} (cells : List ℕ) → Placed two (length cells) p → Sound (slots two) p (pointerOf (mapIn two p cells)) → Reaches cells (mapIn two p cells)
+sound-reaches cells placed sound = (map-whole cells placed, λ k l. omega (arith, placed, sound .inside k l .to))

@@ -1,5 +1,5 @@
 -- The four doors: each one's whole outcome, and its promise, the relation between what was lent, the answer
--- and what is left (document 01, "Storing, opening, stepping" and "What comes back").
+-- and what is left (document 01, "Storing, opening, stepping" and "What comes back"; document 02, P1).
 use Prim.Native.Nat.{ℕ, _+_, _-_}
 use mathlib.Core.Path.{_≡_}
 use mathlib.Core.Bool.{cond, _&&_}

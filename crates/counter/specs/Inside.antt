@@ -3,6 +3,7 @@ use Prim.Native.Nat.{ℕ, _+_, _%_, _≤_, _<_}
 use mathlib.Core.Path.{_≡_}
 use mathlib.Core.Bool.{Bool, true, false, cond, _&&_, _||_}
 use mathlib.Core.List.{List, [], _∷_, _++_}
+use lib.IntN.{ℤ}
 use lib.ListN.{length, getD}
 use lib.Dec.{ltb}
 use Rattle.cells.specs.Chip.{Chip}
@@ -13,6 +14,8 @@ use Rattle.counter.specs.declared.reading.Fault.{Fault}
 use Rattle.counter.specs.declared.reading.Fault.the-variants.{Twofold, LostInAll}
 use Rattle.counter.specs.declared.standing.Standing.{Standing}
 use Rattle.counter.specs.declared.standing.Standing.the-variants.{Unfit, Unmarked, Marked}
+use Rattle.counter.specs.declared.verdict.Verdict.{Verdict}
+use Rattle.counter.specs.declared.verdict.Verdict.the-variants.{Good}
 use Rattle.counter.specs.declared.verdict.Work.{Work}
 use Rattle.counter.specs.declared.verdict.Work.the-variants.{Done, Stopped}
 use Rattle.counter.specs.declared.verdict.Refusal.the-variants.{BadLength, BadPlaces, NoSpare}
@@ -58,6 +61,10 @@ amiss LostInAll a b = isLost (readingAt a) && isLost (readingAt b)
 -- the cells of all slots hold their codes of c
 abbrev pub Holds : Layout → Places → ℕ → List ℕ → Type 0
 Holds layout p c cells = (k : ℕ) → k < slots layout → dataAt cells (mapIn layout p cells) k ≡ slotCode c k
+
+-- where a finding is said to be exact, and a count was read, the cells of all slots hold their codes of it
+abbrev pub ExactIf : Bool → Layout → Places → Verdict → List ℕ → Type 0
+ExactIf exact layout p verdict cells = exact ≡ true → (c : ℕ) (lag : ℤ) → verdict ≡ Good c lag → Holds layout p c cells
 
 -- a piece of storing was stopped
 abbrev pub stopped : Work → Bool

@@ -1,4 +1,4 @@
-// The four doors (document 01, "Storing, opening, stepping" and "What comes back"). None of them asks anything
+// The four doors (document 01, "Storing, opening, stepping" and "What comes back"; document 02, P1). None of them asks anything
 // of its caller: every image, setting and life has its answer.
 ghost use mathlib.Core.Path.{_≡_};
 ghost use mathlib.Core.Bool.{true};

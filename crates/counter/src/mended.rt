@@ -1,15 +1,11 @@
 // Which bits were mended (document 02, P1): a count for each bit, over the sixteen data cells.
 ghost use mathlib.Core.Path.{_≡_};
-ghost use mathlib.Core.Bool.{true};
-ghost use Prim.Native.Nat.{ℕ};
-ghost use lib.IntN.{ℤ};
 ghost use Rattle.code.specs.Readings.{readingOf};
 ghost use Rattle.code.specs.Mended.{bitCounts};
-ghost use Rattle.counter.specs.declared.verdict.Verdict.the-variants.{Good};
 ghost use Rattle.counter.specs.Layout.{two, slots};
 ghost use Rattle.counter.specs.Reading.{dataAt, verdictOf};
 ghost use Rattle.counter.specs.Mended.{bitsOf};
-ghost use Rattle.counter.specs.Inside.{Reaches, Holds};
+ghost use Rattle.counter.specs.Inside.{Reaches, ExactIf};
 use super::map::Map;
 use super::places::Places;
 use super::reading::Finding;
@@ -29,7 +25,7 @@ fn counted(image: &[u8], map: &[u8]) -> [u32; 8]
 // The counts of an image, given what it was found to read as. A refusal has none, and where all slots hold the count's codes
 // nothing was mended.
 pub(crate) fn bits_of(image: &[u8], p: Places, found: Finding) -> [u32; 8]
-    requires { ⌜ (found .verdict ≡ verdictOf two p (now image)) × (found .exact ≡ true → (c : ℕ) (lag : ℤ) → found .verdict ≡ Good c lag → Holds two p c (now image)) ⌝ }
+    requires { ⌜ (found .verdict ≡ verdictOf two p (now image)) × ExactIf (found .exact) two p (found .verdict) (now image) ⌝ }
     ensures { λ r. ⌜ r ≡ bitsOf two p (now (image .entry)) ⌝ }
 {
     if found.exact {

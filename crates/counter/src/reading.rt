@@ -13,7 +13,7 @@ ghost use Rattle.counter.specs.Slots.{lowest};
 ghost use Rattle.counter.specs.Reading.{dataAt, countIn, decide, weigh, examine, verdictOf};
 ghost use Rattle.counter.specs.Places.{lengthGood, placesGood};
 ghost use Rattle.counter.specs.Store.{slotCode};
-ghost use Rattle.counter.specs.Inside.{listed, Reaches, amiss, Holds};
+ghost use Rattle.counter.specs.Inside.{listed, Reaches, amiss, ExactIf};
 ghost use Rattle.counter.specs.declared.verdict.Verdict.the-variants.{Good};
 ghost use Rattle.counter.specs.Layout.{two, slots};
 use super::map::Map;
@@ -225,7 +225,7 @@ fn found_in(image: &[u8], map: &[u8]) -> Finding
 // What a marked image with good settings reads as.
 pub(crate) fn examined(image: &[u8], p: Places) -> Finding
     requires { ⌜ (lengthGood two (length (now image)) ≡ true) × (placesGood two (length (now image)) p ≡ true) ⌝ }
-    ensures { λ r. ⌜ (r .verdict ≡ examine two p (now (image .entry))) × (r .exact ≡ true → (c : ℕ) (lag : ℤ) → r .verdict ≡ Good c lag → Holds two p c (now (image .entry))) ⌝ }
+    ensures { λ r. ⌜ (r .verdict ≡ examine two p (now (image .entry))) × ExactIf (r .exact) two p (r .verdict) (now (image .entry)) ⌝ }
 {
     let map = Map::at(p.map).cells(image);
     if !is_sound(map, p) {
@@ -239,7 +239,7 @@ pub(crate) fn examined(image: &[u8], p: Places) -> Finding
 
 // What an image reads as, by the tests in the order of the table.
 pub(crate) fn verdict_of(image: &[u8], p: Places) -> Finding
-    ensures { λ r. ⌜ (r .verdict ≡ verdictOf two p (now (image .entry))) × (r .exact ≡ true → (c : ℕ) (lag : ℤ) → r .verdict ≡ Good c lag → Holds two p c (now (image .entry))) ⌝ }
+    ensures { λ r. ⌜ (r .verdict ≡ verdictOf two p (now (image .entry))) × ExactIf (r .exact) two p (r .verdict) (now (image .entry)) ⌝ }
 {
     let standing = standing_of(image, p);
     match standing {

@@ -1,5 +1,5 @@
 -- The text that `look` prints (document 01, "Measured on the bench"; document 02, P1).
-use Prim.Native.Nat.{ℕ}
+use Prim.Native.Nat.{ℕ, _+_, _*_}
 use mathlib.Core.List.{List, [], _∷_, _++_, flatten}
 use lib.ListN.{getD}
 use Rattle.code.specs.Tabulate.{tabulate}
@@ -52,4 +52,4 @@ bitLongest = 16
 
 -- and all twelve
 abbrev pub longest : ℕ
-longest = 213
+longest = answerLongest + 8 * bitLongest

@@ -1,7 +1,8 @@
--- The cases of the bench that are proved (document 01, "Measured on the bench", those with a star), as one table about the
--- definitions.
+-- The cases of the bench that are proved (document 01, "Measured on the bench", those with a star), and some of document 02, P1, as
+-- one table about the definitions.
 --   Row     a case: what the definitions answer, and what the paper says
---   bench   the cases, 1 to 13
+--   bench   the cases of document 01, 1 to 13
+--   mended  the cases of P1
 --   holds   in each case the definitions answer what the paper says
 use Prim.Native.Nat.{ℕ}
 use mathlib.Core.Path.{_≡_, refl}
@@ -13,8 +14,10 @@ use Rattle.code.specs.declared.reading.Reading.{Reading}
 use Rattle.code.specs.declared.reading.Reading.the-variants.{Clean, Mended, Lost}
 use Rattle.code.specs.Codes.{codes, codeOf, distance}
 use Rattle.code.specs.Readings.{nearFrom, near, readingOf, twofold, isLost, nibbleRead}
+use Rattle.code.specs.Mended.{mendedIn, howMany, bitCounts, noBits}
 use Rattle.code.specs.Gray.{bits, grayOf, halvesOf, countOf}
 use Rattle.code.specs.Nibbles.{wordOf}
+use Rattle.counter.specs.declared.doors.ReadAnswer.{ReadAnswer}
 use Rattle.counter.specs.declared.verdict.Answer.{Answer}
 use Rattle.counter.specs.Layout.{two}
 use Rattle.counter.specs.Slots.{kindOf, every, some, lowest}
@@ -22,13 +25,14 @@ use Rattle.counter.specs.Places.{settingA, lengthGood, placesGood}
 use Rattle.counter.specs.Map.{marked, offsetIn, offsetOf, pointerAt, pointerOf, reachable, inOrder, sound}
 use Rattle.counter.specs.Verdict.{answer, answerOf}
 use Rattle.counter.specs.Reading.{firstRead, nibbleIn, countIn, close, decide, weigh, examine, verdictOf}
-use Rattle.counter.specs.Doors.{readOf}
+use Rattle.counter.specs.Mended.{bitsOf}
+use Rattle.counter.specs.Doors.{readOf, readAnswerOf}
 
 -- what a case asks for: what a byte reads as, the Gray word of a count, or what an image answers
 pub data Question : Type 0 where
   reads : Reading → Question
   word : ℕ → Question
-  says : Answer → Question
+  says : ReadAnswer → Question
 
 -- a case by its number: what the definitions answer, and what the paper says
 pub record Row : Type 0 where
@@ -50,7 +54,14 @@ chipA first second =
     ++ (0x80 ∷ 0x80 ∷ second ∷ 0x80 ∷ 0x80 ∷ first ∷ [])
 
 abbrev look : ℕ → ℕ → Question
-look first second = says (readOf two (settingA) (chipA first second))
+look first second = says (readAnswerOf two settingA (chipA first second))
+
+-- an answer with these counts of mended bits, or with none
+abbrev counts : Answer → List ℕ → Question
+counts a each = says (record { answer = a; bits = each })
+
+abbrev plain : Answer → Question
+plain a = counts a noBits
 
 -- the cases
 abbrev pub bench : List Row
@@ -64,14 +75,22 @@ bench =
     row 7 (word (grayOf 16)) (word 0x18) ∷
     row 7 (word (grayOf 15)) (word 0x08) ∷
     row 8 (word (grayOf 4294967295)) (word 0x80000000) ∷
-    row 9 (look 0xCB 0xB3) (says (answer 0 5 (pos 1) 0 0 0)) ∷
-    row 10 (look 0xB3 0xCB) (says (answer 6 0 (negsuc 0) 0 0 0)) ∷
-    row 11 (look 0xCB 0x19) (says (answer 6 0 (pos 2) 0 0 0)) ∷
-    row 12 (look 0x01 0xB3) (says (answer 0 4 (pos 0) 0 0 0)) ∷
-    row 13 (look 0x01 0x01) (says (answer 5 0 (pos 0) 0 0 0)) ∷
+    row 9 (look 0xCB 0xB3) (plain (answer 0 5 (pos 1) 0 0 0)) ∷
+    row 10 (look 0xB3 0xCB) (plain (answer 6 0 (negsuc 0) 0 0 0)) ∷
+    row 11 (look 0xCB 0x19) (plain (answer 6 0 (pos 2) 0 0 0)) ∷
+    row 12 (look 0x01 0xB3) (plain (answer 0 4 (pos 0) 0 0 0)) ∷
+    row 13 (look 0x01 0x01) (plain (answer 5 0 (pos 0) 0 0 0)) ∷
+    []
+
+-- a mended cell whose nibble is lent counts once; a lag of 1 has counts; refusal 6 has none
+abbrev pub mended : List Row
+mended =
+    row 1 (look 0x81 0x01) (counts (answer 0 0 (pos 0) 0 0 0) (1 ∷ 0 ∷ 0 ∷ 0 ∷ 0 ∷ 0 ∷ 0 ∷ 0 ∷ [])) ∷
+    row 2 (look 0xCA 0xB1) (counts (answer 0 5 (pos 1) 0 0 0) (1 ∷ 1 ∷ 0 ∷ 0 ∷ 0 ∷ 0 ∷ 0 ∷ 0 ∷ [])) ∷
+    row 3 (look 0xB1 0xCA) (plain (answer 6 0 (negsuc 0) 0 0 0)) ∷
     []
 
 -- in each case the definitions answer what the paper says
-pub holds : map (λ r. r .found) bench ≡ map (λ r. r .paper) bench
-unfolding codes codeOf distance trailingZeros nearFrom near readingOf twofold isLost nibbleRead bits grayOf halvesOf countOf wordOf ones kindOf every some lowest lengthGood placesGood marked offsetIn offsetOf pointerAt pointerOf reachable inOrder sound answerOf firstRead nibbleIn countIn close decide weigh examine verdictOf readOf
+pub holds : map (λ r. r .found) (bench ++ mended) ≡ map (λ r. r .paper) (bench ++ mended)
+unfolding codes codeOf distance trailingZeros nearFrom near readingOf twofold isLost nibbleRead mendedIn howMany bitCounts bits grayOf halvesOf countOf wordOf ones kindOf every some lowest lengthGood placesGood marked offsetIn offsetOf pointerAt pointerOf reachable inOrder sound answerOf firstRead nibbleIn countIn close decide weigh examine verdictOf bitsOf readOf
 holds = refl

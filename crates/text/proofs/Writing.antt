@@ -10,7 +10,7 @@ use lib.ListN.{length, take, getD, set, length-append, length-take, length-drop}
 use lib.Seq.{sets, length-sets, sets-eq, take-suc}
 use Rattle.text.specs.Text.{equals, lineFeed, line, Wrote}
 
--- storing two runs, one after the other, is storing the two flatten
+-- storing two runs, one after the other, is storing the two joined
 sets-append : (xs ys text : List ℕ) (at : ℕ) → sets text at (xs ++ ys) ≡ sets (sets text at xs) (at + length xs) ys
 sets-append [] ys text at = rw add-zero
 sets-append (x ∷ xs) ys text at = rw (add-suc, ← suc-add) (sets-append xs ys (set text at x) (suc at))
@@ -100,7 +100,7 @@ pub wrote-on : {before between after : List ℕ} {at middle next : ℕ} (xs ys :
     → Wrote before at xs middle between → Wrote between middle ys next after → Wrote before at (xs ++ ys) next after
 wrote-on xs ys within first second = wrote-more xs ys (simp length-append (omega (arith, within, first .ends, second .ends))) first second
 
--- lines of which the first `done` were written
+-- lines, one after another
 flatten-append : (xs ys : List (List ℕ)) → flatten (xs ++ ys) ≡ flatten xs ++ flatten ys
 unfolding flatten
 flatten-append [] ys = refl
@@ -117,7 +117,7 @@ pub wrote-no-line : (text : List ℕ) (at : ℕ) → at ≤ length text → Wrot
 unfolding flatten
 wrote-no-line = wrote-none
 
--- the next is written
+-- of lines of which the first `done` were written the next is written
 pub wrote-line : {before text after : List ℕ} {at next past : ℕ} (lines : List (List ℕ)) (done : ℕ) → done < length lines → past ≤ length before
     → Wrote before at (flatten (take done lines)) next text → Wrote text next (getD lines done []) past after
     → Wrote before at (flatten (take (done + 1) lines)) past after

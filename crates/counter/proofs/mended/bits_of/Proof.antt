@@ -7,7 +7,8 @@ use borrow.Author.Needs.{needs}
 use Rattle.counter.specs.Layout.{two, mapCells}
 use Rattle.counter.specs.Map.{mapIn}
 use Rattle.counter.proofs.Settings.{good-placed}
-use Rattle.counter.proofs.GoodVerdicts.{CellsGood, cells-good, good-reaches}
+use Rattle.counter.proofs.Ready.{sound-reaches}
+use Rattle.counter.proofs.GoodVerdicts.{CellsGood, cells-good}
 use Rattle.counter.proofs.MendedBits.{bits-good, bits-refused, bits-held}
 use Rattle.counter.proofs.mended.bits_of.Statement.{statement}
 use Rattle.counter.proofs.mended.bits_of.Tie as tie
@@ -30,7 +31,9 @@ map : (c : tie.After-cells) → let s = start (c .before .before) .args in c .ce
 map c = c .cells .ensures ∙ ap (λ (place : ℕ). take (mapCells two) (drop place (start (c .before .before) .args .image .now))) (c .before .at .ensures)
 
 counted-requires : tie.Need-counted-requires
-counted-requires c κs = rw (map c) (good-reaches (facts (c .before .before)))
+counted-requires c κs =
+    let facts = facts (c .before .before) in
+    rw (map c) (sound-reaches _ (good-placed two _ _ (facts .good)) (facts .sound))
 
 returns-2 : tie.Need-returns-2
 returns-2 c =

@@ -9,6 +9,7 @@ use Rattle.counter.specs.Reading.{examine}
 use Rattle.counter.proofs.Settings.{good-placed, length-good}
 use Rattle.counter.proofs.MapBytes.{map-whole}
 use Rattle.counter.proofs.SoundPointers.{test-sound}
+use Rattle.counter.proofs.Ready.{sound-reaches}
 use borrow.Author.Needs.{needs}
 use Rattle.counter.specs.Layout.{two}
 use Rattle.counter.proofs.reading.examined.Statement.{statement}
@@ -44,8 +45,8 @@ returns c = (rw (tested (c .before) ∙ not-true _ (c .if1 .taken)), λ e. absur
 found-in-requires : tie.Need-found-in-requires
 found-in-requires c κs =
     let cells = c .before .before in
-    let facts = test-sound two _ _ (sym (c .before .is-sound .ensures) ∙ not-false _ (c .if1 .left)) in
-    (whole cells, λ k l. omega (arith, good-placed two _ _ (cells .before .before .before .pre .1), facts .inside k l .to))
+    rw (map cells)
+    (sound-reaches _ (good-placed two _ _ (cells .before .before .before .pre .1)) (test-sound two _ _ (tested (c .before) ∙ not-false _ (c .if1 .left))))
 
 returns-2 : tie.Need-returns-2
 unfolding examine
