@@ -1,0 +1,6 @@
+pub mod Signs
+pub mod Records
+pub mod Lines
+pub mod Faults
+pub mod Doors
+pub mod Inside
