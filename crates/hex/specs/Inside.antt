@@ -1,7 +1,13 @@
 -- What the functions inside the crate promise each other. No promise of a door rests on it.
-use Prim.Native.Nat.{ℕ, _+_, _-_, _/_, _%_}
+use Prim.Native.Nat.{ℕ, _+_, _*_, _-_, _/_, _%_, _<_}
+use mathlib.Core.Path.{_≡_}
+use mathlib.Core.Bool.{Bool, true, cond, not, _&&_}
 use mathlib.Core.List.{List, [], _∷_, _++_}
-use Rattle.hex.specs.Signs.{lineFeed, colon, twoDigits, inDigits}
+use lib.ListN.{length, take, drop, getD}
+use lib.Dec.{eqb, ltb}
+use Rattle.hex.specs.Signs.{lineFeed, carriageReturn, colon, twoDigits, inDigits, valueOf, byteAt, bytesAt, total}
+use Rattle.hex.specs.Records.{endKind}
+use Rattle.hex.specs.Faults.{lawful, someTaken}
 
 -- what stands before the data of a record, and what stands behind them where the bytes before have a sum
 abbrev pub headOf : ℕ → ℕ → ℕ → List ℕ
@@ -9,3 +15,56 @@ headOf kind address count = colon ∷ inDigits (count ∷ address / 256 ∷ addr
 
 abbrev pub tailOf : ℕ → List ℕ
 tailOf sum = twoDigits ((256 - sum % 256) % 256) ++ (lineFeed ∷ [])
+
+-- a table of what each sign counts
+pub record Laid (values : List ℕ) : Type 0 where
+  pub counts : (sign : ℕ) → sign < 256 → getD values sign 0 ≡ valueOf sign
+
+-- each of some numbers is a byte
+unfoldable pub allBytes : List ℕ → Bool
+allBytes [] = true
+allBytes (byte ∷ bytes) = ltb byte 256 && allBytes bytes
+
+-- the index past the line end that stands at an index; 0 where none stands there
+unfoldable pub endAt : List ℕ → ℕ → ℕ
+endAt text at =
+    cond (eqb (getD text at 0) lineFeed) (at + 1)
+    (cond (eqb (getD text at 0) carriageReturn && eqb (getD text (at + 1) 0) lineFeed) (at + 2) 0)
+
+-- the line that begins at an index of a text: its parts
+abbrev pub countAt : List ℕ → ℕ → ℕ
+countAt text at = byteAt text (at + 1)
+
+abbrev pub addressAt : List ℕ → ℕ → ℕ
+addressAt text at = 256 * byteAt text (at + 3) + byteAt text (at + 5)
+
+abbrev pub kindAt : List ℕ → ℕ → ℕ
+kindAt text at = byteAt text (at + 7)
+
+abbrev pub dataAt : List ℕ → ℕ → List ℕ
+dataAt text at = bytesAt text (at + 9) (countAt text at)
+
+abbrev pub allAt : List ℕ → ℕ → List ℕ
+allAt text at = bytesAt text (at + 1) (countAt text at + 5)
+
+abbrev pub nextAt : List ℕ → ℕ → ℕ
+nextAt text at = endAt text (at + 11 + 2 * countAt text at)
+
+-- a colon, as many bytes as the count asks for, and the line end
+unfoldable pub formedAt : List ℕ → ℕ → Bool
+formedAt text at = eqb (getD text at 0) colon && (allBytes (allAt text at) && ltb 0 (nextAt text at))
+
+-- what a line in form is at fault for, from 2 on
+unfoldable pub fault : ℕ → ℕ → ℕ → ℕ → ℕ → Bool → ℕ
+fault sum kind address count size twice =
+    cond (not (eqb (sum % 256) 0)) 2 (cond (ltb endKind kind) 3 (cond (ltb size (address + count)) 4 (cond twice 5 0)))
+
+-- what the line that begins at an index is at fault for
+unfoldable pub faultAt : List ℕ → ℕ → List ℕ → ℕ
+faultAt text at cells =
+    let kind = kindAt text at in
+    let address = addressAt text at in
+    let count = countAt text at in
+    cond (formedAt text at && lawful kind address count)
+    (fault (total (allAt text at)) kind address count (length cells) (someTaken (take count (drop address cells))))
+    1

@@ -1,5 +1,6 @@
 // Intel HEX in and out (document 02, P2): an image written as its standard text, and a text read into an image. This crate knows
 // nothing of what the image holds.
+mod lines;
 mod records;
 
 ghost use mathlib.Core.Path.{_≡_};
