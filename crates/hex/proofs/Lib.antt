@@ -1,6 +1,7 @@
 -- `Digits` has the laws of bytes as digits, `Standard` those of the standard text, `LineLaws` those of lines, `Values` those of what
--- signs count.
+-- signs count, `Bytes` those of bytes read and stored one after another.
 pub mod Digits
 pub mod Standard
 pub mod LineLaws
 pub mod Values
+pub mod Bytes

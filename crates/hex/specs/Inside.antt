@@ -5,6 +5,9 @@ use mathlib.Core.Bool.{Bool, true, cond, not, _&&_}
 use mathlib.Core.List.{List, [], _∷_, _++_}
 use lib.ListN.{length, take, drop, getD}
 use lib.Dec.{eqb, ltb}
+use lib.Seq.{sets}
+use Rattle.hex.specs.declared.lines.Head.{Head}
+use Rattle.hex.specs.declared.lines.Data.{Data}
 use Rattle.hex.specs.Signs.{lineFeed, carriageReturn, colon, twoDigits, inDigits, valueOf, byteAt, bytesAt, total}
 use Rattle.hex.specs.Records.{endKind}
 use Rattle.hex.specs.Faults.{lawful, someTaken}
@@ -68,3 +71,19 @@ faultAt text at cells =
     cond (formedAt text at && lawful kind address count)
     (fault (total (allAt text at)) kind address count (length cells) (someTaken (take count (drop address cells))))
     1
+
+-- what stands before the data of the line that begins at an index
+pub record HeadIs (text : List ℕ) (at : ℕ) (head : Head) : Type 0 where
+  pub formed : head .formed ≡ (eqb (getD text at 0) colon && allBytes (bytesAt text (at + 1) 4))
+  pub count : head .count ≡ countAt text at
+  pub address : head .address ≡ addressAt text at
+  pub kind : head .kind ≡ kindAt text at
+  pub sum : head .sum ≡ total (bytesAt text (at + 1) 4)
+
+-- the data read from an index of a text into cells from an address on
+pub record DataIs (text : List ℕ) (at count : ℕ) (before : List ℕ) (address : ℕ) (read : Data) (after : List ℕ) : Type 0 where
+  pub formed : read .formed ≡ allBytes (bytesAt text at count)
+  pub small : read .sum < 65536
+  pub sum : read .formed ≡ true → read .sum ≡ total (bytesAt text at count)
+  pub twice : read .formed ≡ true → read .twice ≡ someTaken (take count (drop address before))
+  pub stored : read .formed ≡ true → after ≡ sets before address (bytesAt text at count)

@@ -1,13 +1,14 @@
 // A text read line by line into a memory of cells, each of which has its byte or none yet.
 ghost use Prim.Native.Nat.{ℕ, _+_, _*_, _%_, _≤_, _<_};
 ghost use mathlib.Core.Path.{_≡_};
-ghost use mathlib.Core.Bool.{Bool, true, _&&_};
+ghost use mathlib.Core.Bool.{Bool, true, _&&_, _||_};
+ghost use mathlib.Core.List.{[], _∷_};
 ghost use lib.ListN.{length, take, drop, getD};
 ghost use lib.Dec.{eqb, ltb};
 ghost use lib.Seq.{sets};
 ghost use Rattle.hex.specs.Signs.{colon, valueOf, byteAt, bytesAt, total};
-ghost use Rattle.hex.specs.Faults.{lawful, someTaken};
-ghost use Rattle.hex.specs.Inside.{Laid, allBytes, endAt, fault, faultAt};
+ghost use Rattle.hex.specs.Faults.{notYet, lawful, someTaken};
+ghost use Rattle.hex.specs.Inside.{Laid, allBytes, endAt, fault, faultAt, HeadIs, DataIs};
 
 // A cell that has no byte yet.
 pub(crate) const NOT_YET: u16 = 256;
@@ -76,4 +77,107 @@ fn line_end(text: &[u8], at: usize) -> usize
         return at + 2;
     }
     0
+}
+
+// What stands before the data of a line: how many bytes of data there are, their address, the type, and the sum of these bytes; and
+// whether there is a colon and these are bytes.
+pub(crate) struct Head {
+    pub(crate) formed: bool,
+    pub(crate) count: usize,
+    pub(crate) address: usize,
+    pub(crate) kind: usize,
+    pub(crate) sum: usize,
+}
+
+// Whether there is a colon, and four bytes.
+fn is_head(sign: u8, count: usize, high: usize, low: usize, kind: usize) -> bool
+    ensures { λ r. ⌜ r ≡ (eqb sign colon && allBytes (count ∷ high ∷ low ∷ kind ∷ [])) ⌝ }
+{
+    if sign != b':' {
+        return false;
+    }
+    if count >= 256 {
+        return false;
+    }
+    if high >= 256 {
+        return false;
+    }
+    if low >= 256 {
+        return false;
+    }
+    kind < 256
+}
+
+// Reads what stands before the data of the line that begins at an index.
+fn head_at(values: &[u16; 256], text: &[u8], at: usize) -> Head
+    requires { ⌜ Laid (now values) × (at + 9 ≤ length (now text)) ⌝ }
+    ensures { λ r. ⌜ HeadIs (now (text .entry)) at r ⌝ }
+{
+    let count = byte_at(values, text, at + 1);
+    let high = byte_at(values, text, at + 3);
+    let low = byte_at(values, text, at + 5);
+    let kind = byte_at(values, text, at + 7);
+    let formed = is_head(text[at], count, high, low, kind);
+    Head {
+        formed,
+        count,
+        address: 256 * high + low,
+        kind,
+        sum: count + high + low + kind,
+    }
+}
+
+// What the data of a line come to: whether all of them are bytes; and if so their sum, and whether a cell
+// had its byte before.
+pub(crate) struct Data {
+    pub(crate) formed: bool,
+    pub(crate) sum: usize,
+    pub(crate) twice: bool,
+}
+
+// Whether a cell has its byte, or one before it had.
+fn or_taken(twice: bool, cell: u16) -> bool
+    ensures { λ r. ⌜ r ≡ (twice || ltb cell notYet) ⌝ }
+{
+    if cell < NOT_YET {
+        return true;
+    }
+    twice
+}
+
+// Reads so many bytes of data into cells.
+fn read_data(
+    values: &[u16; 256],
+    text: &[u8],
+    at: usize,
+    count: usize,
+    cells: &mut [u16],
+    address: usize,
+) -> Data
+    requires { ⌜ Laid (now values) × (count < 256) × (at + 2 * count ≤ length (now text)) × (address + count ≤ length (now cells)) × (length (now cells) ≤ 4096) ⌝ }
+    ensures { λ r. ⌜ DataIs (now (text .entry)) at count (now (cells .entry)) address r (now (cells .exit)) ⌝ }
+{
+    let mut sum = 0;
+    let mut twice = false;
+    let mut done = 0;
+    while done < count {
+        let byte = byte_at(values, text, at + 2 * done);
+        if byte >= 256 {
+            return Data {
+                formed: false,
+                sum,
+                twice,
+            };
+        }
+        let place = address + done;
+        twice = or_taken(twice, cells[place]);
+        cells[place] = byte as u16;
+        sum += byte;
+        done += 1;
+    }
+    Data {
+        formed: true,
+        sum,
+        twice,
+    }
 }
