@@ -5,3 +5,4 @@ pub mod Standard
 pub mod LineLaws
 pub mod Values
 pub mod Bytes
+pub mod Judging

@@ -8,6 +8,7 @@ use lib.Dec.{eqb, ltb}
 use lib.Seq.{sets}
 use Rattle.hex.specs.declared.lines.Head.{Head}
 use Rattle.hex.specs.declared.lines.Data.{Data}
+use Rattle.hex.specs.declared.lines.Read.{Read}
 use Rattle.hex.specs.Signs.{lineFeed, carriageReturn, colon, twoDigits, inDigits, valueOf, byteAt, bytesAt, total}
 use Rattle.hex.specs.Records.{endKind}
 use Rattle.hex.specs.Faults.{lawful, someTaken}
@@ -87,3 +88,20 @@ pub record DataIs (text : List ℕ) (at count : ℕ) (before : List ℕ) (addres
   pub sum : read .formed ≡ true → read .sum ≡ total (bytesAt text at count)
   pub twice : read .formed ≡ true → read .twice ≡ someTaken (take count (drop address before))
   pub stored : read .formed ≡ true → after ≡ sets before address (bytesAt text at count)
+
+-- a line judged from its checksum on, with what stands before it
+pub record Judged (text : List ℕ) (at : ℕ) (head : Head) (held : Data) (size : ℕ) (read : Read) : Type 0 where
+  pub code :
+    read .code
+    ≡ cond (held .formed && (ltb (byteAt text at) 256 && (ltb 0 (endAt text (at + 2)) && lawful (head .kind) (head .address) (head .count))))
+      (fault (head .sum + held .sum + byteAt text at) (head .kind) (head .address) (head .count) size (held .twice))
+      1
+  pub next : read .code ≡ 0 → read .next ≡ endAt text (at + 2)
+  pub closed : read .code ≡ 0 → read .closed ≡ eqb (head .kind) endKind
+
+-- the line that begins at an index was read into cells
+pub record LineIs (text : List ℕ) (at : ℕ) (before : List ℕ) (read : Read) (after : List ℕ) : Type 0 where
+  pub code : read .code ≡ faultAt text at before
+  pub next : read .code ≡ 0 → read .next ≡ nextAt text at
+  pub closed : read .code ≡ 0 → read .closed ≡ eqb (kindAt text at) endKind
+  pub stored : read .code ≡ 0 → after ≡ sets before (addressAt text at) (dataAt text at)

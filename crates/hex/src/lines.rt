@@ -8,7 +8,7 @@ ghost use lib.Dec.{eqb, ltb};
 ghost use lib.Seq.{sets};
 ghost use Rattle.hex.specs.Signs.{colon, valueOf, byteAt, bytesAt, total};
 ghost use Rattle.hex.specs.Faults.{notYet, lawful, someTaken};
-ghost use Rattle.hex.specs.Inside.{Laid, allBytes, endAt, fault, faultAt, HeadIs, DataIs};
+ghost use Rattle.hex.specs.Inside.{Laid, allBytes, endAt, fault, faultAt, HeadIs, DataIs, Judged, LineIs};
 
 // A cell that has no byte yet.
 pub(crate) const NOT_YET: u16 = 256;
@@ -179,5 +179,108 @@ fn read_data(
         formed: true,
         sum,
         twice,
+    }
+}
+
+// Whether a data record has data, and an end record none and the address 0.
+fn is_lawful(kind: usize, address: usize, count: usize) -> bool
+    ensures { λ r. ⌜ r ≡ lawful kind address count ⌝ }
+{
+    if kind == 0 {
+        return count > 0;
+    }
+    if kind != 1 {
+        return true;
+    }
+    if count != 0 {
+        return false;
+    }
+    address == 0
+}
+
+// What a line in form is at fault for, from 2 on; 0 for nothing.
+fn fault_of(
+    sum: usize,
+    kind: usize,
+    address: usize,
+    count: usize,
+    size: usize,
+    twice: bool,
+) -> u32
+    requires { ⌜ (address < 65536) × (count < 256) ⌝ }
+    ensures { λ r. ⌜ r ≡ fault sum kind address count size twice ⌝ }
+{
+    if sum % 256 != 0 {
+        return 2;
+    }
+    if kind > 1 {
+        return 3;
+    }
+    if address + count > size {
+        return 4;
+    }
+    if twice {
+        return 5;
+    }
+    0
+}
+
+// A line that was read: what it is at fault for; and if for nothing, where the next one begins, and
+// whether it is the end record.
+pub(crate) struct Read {
+    pub(crate) code: u32,
+    pub(crate) next: usize,
+    pub(crate) closed: bool,
+}
+
+// A line that is malformed.
+fn malformed() -> Read
+    ensures { λ r. ⌜ r .code ≡ 1 ⌝ }
+{
+    Read {
+        code: 1,
+        next: 0,
+        closed: false,
+    }
+}
+
+// Reads what stands behind the data of a line, from its checksum on, and judges the line.
+fn judge(
+    values: &[u16; 256],
+    text: &[u8],
+    at: usize,
+    head: Head,
+    held: Data,
+    size: usize,
+) -> Read
+    requires { ⌜ Laid (now values) × (at + 3 ≤ length (now text)) × (head .address < 65536) × (head .count < 256) × (head .sum < 65536) × (held .sum < 65536) ⌝ }
+    ensures { λ r. ⌜ Judged (now (text .entry)) at head held size r ⌝ }
+{
+    if !held.formed {
+        return malformed();
+    }
+    let check = byte_at(values, text, at);
+    if check >= 256 {
+        return malformed();
+    }
+    let next = line_end(text, at + 2);
+    if next == 0 {
+        return malformed();
+    }
+    if !is_lawful(head.kind, head.address, head.count) {
+        return malformed();
+    }
+    let code = fault_of(
+        head.sum + held.sum + check,
+        head.kind,
+        head.address,
+        head.count,
+        size,
+        held.twice,
+    );
+    Read {
+        code,
+        next,
+        closed: head.kind == 1,
     }
 }
