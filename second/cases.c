@@ -1,41 +1,10 @@
-/* Random cases. A case is a chip (settings, cells, lives) and a run of calls on it, and is given by its seed and number alone.
-   Chips are made to be near the edges of document 01: sound maps with few spares, damaged maps, worn cells, copies that lag or
-   are lost, counts near a carry or the end, and settings one off a limit. */
+/* Random cases. A case is a chip (settings, cells, lives) and a run of calls on it. Chips are made to be near the edges of document
+   01: sound maps with few spares, damaged maps, worn cells, copies that lag or are lost, counts near a carry or the end, and
+   settings one off a limit. */
 
 #include "compare.h"
 
 #include <string.h>
-
-/* splitmix64 */
-static uint64_t state;
-
-static uint64_t draw(void)
-{
-    uint64_t x = state += 0x9E3779B97F4A7C15;
-    x = (x ^ (x >> 30)) * 0xBF58476D1CE4E5B9;
-    x = (x ^ (x >> 27)) * 0x94D049BB133111EB;
-    return x ^ (x >> 31);
-}
-
-static size_t below(size_t limit)
-{
-    return (size_t)(draw() % limit);
-}
-
-static size_t between(size_t lowest, size_t highest)
-{
-    return lowest + below(highest - lowest + 1);
-}
-
-static bool chance(unsigned percent)
-{
-    return below(100) < percent;
-}
-
-static size_t smaller(size_t one, size_t other)
-{
-    return one < other ? one : other;
-}
 
 /* The chip being made. */
 static places good;
@@ -421,11 +390,8 @@ static void whole_life(void)
     any_calls(false);
 }
 
-void random_case(uint64_t seed, uint64_t number)
+void random_case(void)
 {
-    state = seed;
-    state = draw() ^ number;
-    state = draw();
     draw_chip();
     if (chance(4)) {
         whole_life();

@@ -1,6 +1,5 @@
 /* Compares the second maker with the archive, call by call: the answer, every cell and every life, and the guards around what
-   is lent. Use: compare SEED COUNT [FIRST]. With FIRST the worked cases are left out and COUNT random cases from number FIRST on
-   are run, which repeats a reported one. */
+   is lent. Use: compare SEED COUNT [FIRST]; see run.c. */
 
 #include "compare.h"
 
@@ -25,10 +24,9 @@ static places lent;
 static uint8_t image_before[largest];
 static uint32_t lives_before[largest];
 
+const char program[] = "compare";
 static const char *const door_names[doors] = {"open", "read", "step", "map part"};
-static uint64_t met[doors][codes_counted], calls, reads_mended;
-static uint64_t seed, case_number;
-static bool in_worked = true;
+static uint64_t met[doors][codes_counted], reads_mended;
 
 static const uint8_t guard_byte = 0xC3;
 static const uint32_t guard_life = 0xC3C3C3C3;
@@ -80,29 +78,6 @@ void set_cell(size_t address, uint8_t byte)
 void set_life(size_t address, uint32_t life)
 {
     ours.lives[address] = theirs.lives[address] = life;
-}
-
-void begin(uint64_t number)
-{
-    case_number = number;
-}
-
-static void where(void)
-{
-    if (in_worked)
-        printf("worked case %" PRIu64 "\n", case_number);
-    else
-        printf("random case: seed %" PRIu64 " number %" PRIu64 " (again: compare %" PRIu64 " 1 %" PRIu64 ")\n", seed,
-               case_number, seed, case_number);
-}
-
-void expect(bool holds, const char *what)
-{
-    if (holds)
-        return;
-    printf("NOT AS THE DOCUMENT SAYS: %s\n", what);
-    where();
-    exit(1);
 }
 
 static void show(const char *who, second_answer answer)
@@ -222,7 +197,7 @@ second_part call_map_part(uint32_t copy)
     return mine;
 }
 
-static void print_met(void)
+void print_met(void)
 {
     printf("%-9s", "code");
     for (int each = 0; each < doors; each++)
@@ -240,26 +215,4 @@ static void print_met(void)
         printf("\n");
     }
     printf("reads with a mended cell: %" PRIu64 "\n", reads_mended);
-}
-
-int main(int count_of_words, char **words)
-{
-    if (count_of_words != 3 && count_of_words != 4) {
-        fprintf(stderr, "use: compare SEED COUNT [FIRST]\n");
-        return 2;
-    }
-    seed = strtoull(words[1], NULL, 10);
-    uint64_t count = strtoull(words[2], NULL, 10);
-    uint64_t first = count_of_words == 4 ? strtoull(words[3], NULL, 10) : 0;
-    if (count_of_words == 3)
-        worked_cases();
-    in_worked = false;
-    for (uint64_t done = 0; done < count; done++) {
-        case_number = first + done;
-        random_case(seed, case_number);
-    }
-    print_met();
-    printf("seed %" PRIu64 ": %" PRIu64 " random cases%s, %" PRIu64 " calls, no difference\n", seed, count,
-           count_of_words == 3 ? " and the worked ones" : "", calls);
-    return 0;
 }

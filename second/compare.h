@@ -4,8 +4,7 @@
 #ifndef COMPARE_H
 #define COMPARE_H
 
-#include <stdbool.h>
-
+#include "run.h"
 #include "second.h"
 
 enum { largest = 4200 };
@@ -29,14 +28,5 @@ uint8_t cell(size_t address);
 uint32_t life(size_t address);
 void set_cell(size_t address, uint8_t byte);
 void set_life(size_t address, uint32_t life);
-
-/* Ends the program unless it holds; says what should have. */
-void expect(bool holds, const char *what);
-
-/* Names the worked case that follows, for a report. */
-void begin(uint64_t number);
-
-void worked_cases(void);
-void random_case(uint64_t seed, uint64_t number);
 
 #endif

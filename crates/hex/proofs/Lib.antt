@@ -6,3 +6,8 @@ pub mod LineLaws
 pub mod Values
 pub mod Bytes
 pub mod Judging
+pub mod Forms
+pub mod RecordLaws
+pub mod ReadLaws
+pub mod RoundTrip
+pub mod Covered

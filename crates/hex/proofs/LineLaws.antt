@@ -49,6 +49,7 @@ line-return signs rest plain = before-end signs (carriageReturn ∷ lineFeed ∷
 abbrev pub Some : List Line → Type 0
 Some lines = (first : Line) × (more : List Line) × (lines ≡ first ∷ more)
 
+-- a sign put before some lines gives a first line, and so does a choice between lines that have one
 onto-some : (sign : ℕ) (lines : List Line) → Some (onto sign lines)
 onto-some sign [] = (_, _, refl)
 onto-some sign (first ∷ more) = (_, _, refl)

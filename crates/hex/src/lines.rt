@@ -284,3 +284,32 @@ fn judge(
         closed: head.kind == 1,
     }
 }
+
+// Reads the line that begins at an index into cells. What cannot be stored is read aside, since its form and its checksum are judged
+// first.
+pub(crate) fn read_line(values: &[u16; 256], text: &[u8], at: usize, cells: &mut [u16]) -> Read
+    requires { ⌜ Laid (now values) × (at < length (now text)) × (length (now cells) ≤ 4096) ⌝ }
+    ensures { λ r. ⌜ LineIs (now (text .entry)) at (now (cells .entry)) r (now (cells .exit)) ⌝ }
+{
+    let left = text.len() - at;
+    if left < 12 {
+        return malformed();
+    }
+    let head = head_at(values, text, at);
+    if !head.formed {
+        return malformed();
+    }
+    let count = head.count;
+    let address = head.address;
+    if left < 12 + 2 * count {
+        return malformed();
+    }
+    let start = at + 9;
+    if address + count <= cells.len() {
+        let held = read_data(values, text, start, count, cells, address);
+        return judge(values, text, start + 2 * count, head, held, cells.len());
+    }
+    let mut aside = [NOT_YET; 256];
+    let held = read_data(values, text, start, count, &mut aside, 0);
+    judge(values, text, start + 2 * count, head, held, cells.len())
+}

@@ -1,0 +1,35 @@
+/* What the comparing programs have in common: how they are started, the draws of random cases, and how an outcome is told. */
+
+#ifndef RUN_H
+#define RUN_H
+
+#include <stdbool.h>
+#include <stddef.h>
+#include <stdint.h>
+
+/* What a program brings: its name, its cases, and what it tells at the end about what was met in them. A random case is given by
+   the draws alone. */
+extern const char program[];
+void worked_cases(void);
+void random_case(void);
+void print_met(void);
+
+/* Random cases run, and calls made; who makes a call adds it. */
+extern uint64_t cases, calls;
+
+/* Names the worked case that follows, for a report. */
+void begin(uint64_t number);
+
+/* Prints which case it is, and how to see it again. */
+void where(void);
+
+/* Ends the program unless it holds; says what should have. */
+void expect(bool holds, const char *what);
+
+uint64_t draw(void);
+size_t below(size_t limit);
+size_t between(size_t lowest, size_t highest);
+bool chance(unsigned percent);
+size_t smaller(size_t one, size_t other);
+
+#endif
