@@ -16,7 +16,7 @@ use Rattle.hex.proofs.Digits.{total-append}
 use Rattle.hex.proofs.Bytes.{bytes-split, bytes-next, all-append}
 
 -- a line end stands inside the text
-end-inside : (text : List ℕ) (at : ℕ) → 0 < endAt text at → at < length text
+pub end-inside : (text : List ℕ) (at : ℕ) → 0 < endAt text at → at < length text
 unfolding endAt
 end-inside text at there =
     elim (decLe (length text) at) [

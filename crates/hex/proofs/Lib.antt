@@ -11,3 +11,4 @@ pub mod RecordLaws
 pub mod ReadLaws
 pub mod RoundTrip
 pub mod Covered
+pub mod WholeLines

@@ -22,7 +22,7 @@ digit d = cond (ltb d 10) (48 + d) (55 + d)
 abbrev pub noDigit : ℕ
 noDigit = 256
 
-abbrev within : ℕ → ℕ → ℕ → Bool
+abbrev pub within : ℕ → ℕ → ℕ → Bool
 within low high sign = leb low sign && leb sign high
 
 -- what a sign counts as a digit, in either letter case
