@@ -12,3 +12,5 @@ pub mod ReadLaws
 pub mod RoundTrip
 pub mod Covered
 pub mod WholeLines
+pub mod Taken
+pub mod TextLaws

@@ -162,7 +162,7 @@ value-kinds sign =
     below low high less few inside = omega (arith, few, leb-true sign high (both (leb low sign) (leb sign high) inside .1))
 
 -- the first sign from an index on, and the first two
-one-more : (text : List ℕ) (at : ℕ) → at < length text → drop at text ≡ getD text at 0 ∷ drop (at + 1) text
+pub one-more : (text : List ℕ) (at : ℕ) → at < length text → drop at text ≡ getD text at 0 ∷ drop (at + 1) text
 one-more text at inside = let next : suc at ≡ at + 1 = omega arith in rw next at (drop-cons text at 0 inside)
 
 two-more : (text : List ℕ) (at : ℕ) → at + 1 < length text → drop at text ≡ getD text at 0 ∷ getD text (at + 1) 0 ∷ drop (at + 2) text

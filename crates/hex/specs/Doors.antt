@@ -13,14 +13,17 @@ pub record Outcome : Type 0 where
   pub answer : Answer
   pub left : List ℕ
 
+abbrev pub answer : ℕ → ℕ → ℕ → Answer
+answer code line length = record { code = code; line = line; length = length }
+
 abbrev pub outcome : Answer → List ℕ → Outcome
 outcome answer left = record { answer = answer; left = left }
 
 abbrev pub refused : ℕ → ℕ → List ℕ → Outcome
-refused code line left = outcome (record { code = code; line = line; length = 0 }) left
+refused code line left = outcome (answer code line 0) left
 
 abbrev pub good : ℕ → List ℕ → Outcome
-good length left = outcome (record { code = 0; line = 0; length = length }) left
+good length left = outcome (answer 0 0 length) left
 
 -- the lengths that an image may have
 abbrev pub sized : ℕ → Bool

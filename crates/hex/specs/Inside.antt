@@ -1,7 +1,7 @@
 -- What the functions inside the crate promise each other. No promise of a door rests on it.
 use Prim.Native.Nat.{ℕ, _+_, _*_, _-_, _/_, _%_, _<_}
 use mathlib.Core.Path.{_≡_}
-use mathlib.Core.Bool.{Bool, true, cond, not, _&&_}
+use mathlib.Core.Bool.{Bool, true, false, cond, not, _&&_}
 use mathlib.Core.List.{List, [], _∷_, _++_}
 use lib.ListN.{length, take, drop, getD}
 use lib.Dec.{eqb, ltb}
@@ -11,7 +11,10 @@ use Rattle.hex.specs.declared.lines.Data.{Data}
 use Rattle.hex.specs.declared.lines.Read.{Read}
 use Rattle.hex.specs.Signs.{lineFeed, carriageReturn, colon, twoDigits, inDigits, valueOf, byteAt, bytesAt, total}
 use Rattle.hex.specs.Records.{endKind}
-use Rattle.hex.specs.Faults.{lawful, someTaken}
+use Rattle.hex.specs.declared.Answer.{Answer}
+use Rattle.hex.specs.Lines.{linesOf}
+use Rattle.hex.specs.Faults.{lawful, memory, someTaken, allTaken}
+use Rattle.hex.specs.Doors.{outcome, readLines}
 
 -- what stands before the data of a record, and what stands behind them where the bytes before have a sum
 abbrev pub headOf : ℕ → ℕ → ℕ → List ℕ
@@ -105,3 +108,8 @@ pub record LineIs (text : List ℕ) (at : ℕ) (before : List ℕ) (read : Read)
   pub next : read .code ≡ 0 → read .next ≡ nextAt text at
   pub closed : read .code ≡ 0 → read .closed ≡ eqb (kindAt text at) endKind
   pub stored : read .code ≡ 0 → after ≡ sets before (addressAt text at) (dataAt text at)
+
+-- a text was read into cells: what it comes to, whatever image it is for
+pub record TextIs (text before : List ℕ) (answer : Answer) (after : List ℕ) : Type 0 where
+  pub reads : (image : List ℕ) → outcome answer (cond (eqb (answer .code) 0) after image) ≡ readLines image 0 (linesOf text) (memory before false)
+  pub taken : answer .code ≡ 0 → allTaken after ≡ true

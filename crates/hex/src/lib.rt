@@ -2,9 +2,10 @@
 // nothing of what the image holds.
 mod lines;
 mod records;
+mod texts;
 
 ghost use mathlib.Core.Path.{_≡_};
-ghost use Rattle.hex.specs.Doors.{outcome, writeOf};
+ghost use Rattle.hex.specs.Doors.{answer, outcome, writeOf};
 
 // What a door answers: 0 or the number of a refusal, the line at fault, and how long the text is that was
 // written.
@@ -14,8 +15,10 @@ pub struct Answer {
     pub length: usize,
 }
 
-// A refusal.
-fn refused(code: u32, line: usize) -> Answer {
+// The answer of a refusal, or of a text that was read.
+fn refused(code: u32, line: usize) -> Answer
+    ensures { λ r. ⌜ r ≡ answer code line 0 ⌝ }
+{
     Answer {
         code,
         line,

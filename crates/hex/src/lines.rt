@@ -14,7 +14,7 @@ ghost use Rattle.hex.specs.Inside.{Laid, allBytes, endAt, fault, faultAt
 pub(crate) const NOT_YET: u16 = 256;
 
 // What each sign counts as a digit, or 256.
-fn laid() -> [u16; 256]
+pub(crate) fn laid() -> [u16; 256]
     ensures { λ r. ⌜ Laid r ⌝ }
 {
     let mut values = [256u16; 256];
