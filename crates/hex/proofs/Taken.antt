@@ -1,5 +1,5 @@
 -- Cells that have their bytes: counted, and copied.
-use Prim.Native.Nat.{ℕ, suc, _+_, _/_, _<_, _≤_}
+use Prim.Native.Nat.{ℕ, zero, suc, _+_, _/_, _<_, _≤_}
 use mathlib.Core.Path.{_≡_, refl, sym, ap, _∙_}
 use mathlib.Core.Bool.{true, false, cond, _&&_}
 use mathlib.Core.List.{List, [], _∷_, _++_}
@@ -8,9 +8,9 @@ use native.Mathlib.Omega.{arith}
 use native.Mathlib.Numerals.{add-one}
 use borrow.Author.Tests.{lt-ltb, le-ltb, eq-eqb, ne-eqb}
 use lib.Dec.{eqb, ltb}
-use lib.ListN.{length, take, getD, set}
+use lib.ListN.{length, take, getD, set, replicate}
 use lib.Seq.{take-suc, take-suc-set}
-use Rattle.hex.specs.Faults.{allTaken}
+use Rattle.hex.specs.Faults.{notYet, allTaken}
 
 -- 0 where every cell has its byte
 unfoldable pub lacking : List ℕ → ℕ
@@ -40,3 +40,9 @@ pub copied-next : (image cells : List ℕ) (k : ℕ) → k < length image → k 
     → take (k + 1) (set image k (getD cells k 0)) ≡ take (k + 1) cells
 copied-next image cells k more inside same =
     rw (add-one, take-suc-set image k (getD cells k 0) more, take-suc cells k 0 inside, same) refl
+
+-- the first of some blank cells
+pub blank-front : (n m : ℕ) → n ≤ m → take n (replicate m notYet) ≡ replicate n notYet
+blank-front zero m inside = refl
+blank-front (suc n) zero inside = absurd (omega arith)
+blank-front (suc n) (suc m) inside = ap (λ (cells : List ℕ). notYet ∷ cells) (blank-front n m (omega arith))

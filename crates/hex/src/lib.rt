@@ -1,14 +1,16 @@
-// Intel HEX in and out (document 02, P2): an image written as its standard text, and a text read into an image. This crate knows
-// nothing of what the image holds.
+// Intel HEX in and out (document 02, P2): an image written as its one standard text, and a text read into an image. Nothing here knows
+// what the image holds.
 mod lines;
 mod records;
 mod texts;
 
+use lines::NOT_YET;
 ghost use mathlib.Core.Path.{_≡_};
-ghost use Rattle.hex.specs.Doors.{answer, outcome, writeOf};
+ghost use lib.ListN.{replicate};
+ghost use Rattle.hex.specs.Faults.{notYet};
+ghost use Rattle.hex.specs.Doors.{answer, outcome, sized, writeOf, readOf};
 
-// What a door answers: 0 or the number of a refusal, the line at fault, and how long the text is that was
-// written.
+// What a door answers: 0 or the number of the refusal, the line at fault, and how long the text is that was written.
 pub struct Answer {
     pub code: u32,
     pub line: usize,
@@ -24,4 +26,56 @@ fn refused(code: u32, line: usize) -> Answer
         line,
         length: 0,
     }
+}
+
+// Whether an image may have this length.
+fn is_sized(n: usize) -> bool
+    ensures { λ r. ⌜ r ≡ sized n ⌝ }
+{
+    if n < 41 {
+        return false;
+    }
+    n <= 4096
+}
+
+// Writes an image as its standard text at the start of a text.
+pub fn write_image(image: &[u8], text: &mut [u8]) -> Answer
+    ensures { λ r. ⌜ outcome r (now (text .exit)) ≡ writeOf (now (image .entry)) (now (text .entry)) ⌝ }
+{
+    if !is_sized(image.len()) {
+        return refused(7, 0);
+    }
+    if text.len() < records::length_for(image.len()) {
+        return refused(8, 0);
+    }
+    let length = records::write_lines(image, text);
+    Answer {
+        code: 0,
+        line: 0,
+        length,
+    }
+}
+
+// As many cells as the longest image has, none of which has its byte yet.
+fn blank_cells() -> [u16; 4096]
+    ensures { λ r. ⌜ r ≡ replicate 4096 notYet ⌝ }
+{
+    [NOT_YET; 4096]
+}
+
+// Reads a text into an image. The bytes are copied when all of them are there, so that a refusal leaves the image alone.
+pub fn read_image(text: &[u8], image: &mut [u8]) -> Answer
+    ensures { λ r. ⌜ outcome r (now (image .exit)) ≡ readOf (now (text .entry)) (now (image .entry)) ⌝ }
+{
+    let n = image.len();
+    if !is_sized(n) {
+        return refused(7, 0);
+    }
+    let mut cells = blank_cells();
+    let answer = texts::read_lines(text, &mut cells[..n]);
+    if answer.code != 0 {
+        return answer;
+    }
+    texts::copy(&cells[..n], image);
+    answer
 }

@@ -6,7 +6,7 @@ ghost use mathlib.Core.List.{[], _∷_, _++_};
 ghost use lib.ListN.{length, take, drop};
 ghost use Rattle.text.specs.Text.{Wrote};
 ghost use Rattle.hex.specs.Signs.{digit, twoDigits, inDigits, total, colon};
-ghost use Rattle.hex.specs.Records.{lineOf, standardText, dataKind, endKind};
+ghost use Rattle.hex.specs.Records.{lineOf, recordsIn, standardText, dataKind, endKind};
 ghost use Rattle.hex.specs.Inside.{headOf, tailOf};
 
 // The sign of a digit, in capitals.
@@ -90,6 +90,14 @@ fn write_end(text: &mut [u8], at: usize) -> usize
     ensures { λ r. ⌜ Wrote (now (text .entry)) at (lineOf endKind 0 []) r (now (text .exit)) ⌝ }
 {
     text::write_bytes(b":00000001FF\n", text, at)
+}
+
+// How long the standard text of an image of n bytes is.
+pub(crate) fn length_for(n: usize) -> usize
+    requires { ⌜ n ≤ 4096 ⌝ }
+    ensures { λ r. ⌜ r ≡ 2 * n + 12 * recordsIn n + 12 ⌝ }
+{
+    2 * n + 12 * ((n + 15) / 16) + 12
 }
 
 // Writes the standard text.
