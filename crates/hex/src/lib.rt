@@ -6,9 +6,11 @@ mod texts;
 
 use lines::NOT_YET;
 ghost use mathlib.Core.Path.{_≡_};
-ghost use lib.ListN.{replicate};
+ghost use Prim.Native.Nat.{_≤_};
+ghost use lib.ListN.{length, replicate};
+ghost use Rattle.hex.specs.Lines.{linesOf};
 ghost use Rattle.hex.specs.Faults.{notYet};
-ghost use Rattle.hex.specs.Doors.{answer, outcome, sized, writeOf, readOf};
+ghost use Rattle.hex.specs.Doors.{answer, outcome, sized, writeOf, blank, readLines, readOf};
 
 // What a door answers: 0 or the number of the refusal, the line at fault, and how long the text is that was written.
 pub struct Answer {
@@ -56,14 +58,21 @@ pub fn write_image(image: &[u8], text: &mut [u8]) -> Answer
     }
 }
 
-// As many cells as the longest image has, none of which has its byte yet.
-fn blank_cells() -> [u16; 4096]
-    ensures { λ r. ⌜ r ≡ replicate 4096 notYet ⌝ }
+// Reads a text into an image of an allowed length. The bytes are copied when all of them are there, so that a refusal leaves the
+// image alone.
+fn read_with(text: &[u8], image: &mut [u8], cells: &mut [u16]) -> Answer
+    requires { ⌜ (length (now image) ≤ 4096) × (now cells ≡ replicate (length (now image)) notYet) ⌝ }
+    ensures { λ r. ⌜ outcome r (now (image .exit)) ≡ readLines (now (image .entry)) 0 (linesOf (now (text .entry))) (blank (length (now (image .entry)))) ⌝ }
 {
-    [NOT_YET; 4096]
+    let answer = texts::read_lines(text, cells);
+    if answer.code != 0 {
+        return answer;
+    }
+    texts::copy(cells, image);
+    answer
 }
 
-// Reads a text into an image. The bytes are copied when all of them are there, so that a refusal leaves the image alone.
+// Reads a text into an image.
 pub fn read_image(text: &[u8], image: &mut [u8]) -> Answer
     ensures { λ r. ⌜ outcome r (now (image .exit)) ≡ readOf (now (text .entry)) (now (image .entry)) ⌝ }
 {
@@ -71,11 +80,6 @@ pub fn read_image(text: &[u8], image: &mut [u8]) -> Answer
     if !is_sized(n) {
         return refused(7, 0);
     }
-    let mut cells = blank_cells();
-    let answer = texts::read_lines(text, &mut cells[..n]);
-    if answer.code != 0 {
-        return answer;
-    }
-    texts::copy(&cells[..n], image);
-    answer
+    let mut cells = [NOT_YET; 4096];
+    read_with(text, image, &mut cells[..n])
 }

@@ -1,10 +1,12 @@
--- What the structs for C say, in the counter's own terms.
+-- What the structs for C say, in the terms of the counter and of hex.
 use Rattle.counter.specs.declared.verdict.Answer as verdict
 use Rattle.counter.specs.declared.doors.ReadAnswer as reading
 use Rattle.counter.specs.declared.doors.Part as doors
+use Rattle.hex.specs.declared.Answer as hex
 use Rattle.lyre.specs.declared.Answer.{Answer}
 use Rattle.lyre.specs.declared.ReadAnswer.{ReadAnswer}
 use Rattle.lyre.specs.declared.Part.{Part}
+use Rattle.lyre.specs.declared.Hex.{Hex}
 
 -- the answer that an answer for C stands for, field by field
 abbrev pub answerIn : Answer → verdict.Answer
@@ -21,3 +23,7 @@ readAnswerIn a =
 -- the part that a part for C stands for
 abbrev pub partIn : Part → doors.Part
 partIn p = record { code = p .code; start = p .start; size = p .length }
+
+-- the answer of Intel HEX that one for C stands for
+abbrev pub hexIn : Hex → hex.Answer
+hexIn h = record { code = h .code; line = h .line; length = h .length }

@@ -1,11 +1,12 @@
-// The doors for C, as include/lyre.h declares them. Each hands its arguments to the counter's door, and promises
+// The doors for C, as include/lyre.h declares them. Each hands its arguments to a door of the counter or of hex, and promises
 // what that door promises.
 ghost use mathlib.Core.Path.{_≡_};
 ghost use Rattle.cells.specs.Chip.{chip};
 ghost use Rattle.counter.specs.Layout.{two};
 ghost use Rattle.counter.specs.Places.{places};
 ghost use Rattle.counter.specs.Doors.{Opens, Steps, Reads, mapPartOf};
-ghost use Rattle.lyre.specs.Plain.{answerIn, readAnswerIn, partIn};
+ghost use Rattle.hex.specs.Doors.{outcome, writeOf, readOf};
+ghost use Rattle.lyre.specs.Plain.{answerIn, readAnswerIn, partIn, hexIn};
 
 // lyre_answer.
 #[repr(C)]
@@ -35,6 +36,14 @@ pub struct ReadAnswer {
 pub struct Part {
     pub code: u32,
     pub start: u64,
+    pub length: u64,
+}
+
+// lyre_hex.
+#[repr(C)]
+pub struct Hex {
+    pub code: u32,
+    pub line: u64,
     pub length: u64,
 }
 
@@ -110,4 +119,31 @@ pub extern "C" fn lyre_map_part(image: &[u8], m: usize, s: usize, e: usize, copy
         start: part.start as u64,
         length: part.size as u64,
     }
+}
+
+// The answer of Intel HEX, laid out for C.
+fn plain_hex(answer: hex::Answer) -> Hex
+    ensures { λ r. ⌜ hexIn r ≡ answer ⌝ }
+{
+    Hex {
+        code: answer.code,
+        line: answer.line as u64,
+        length: answer.length as u64,
+    }
+}
+
+// Writes an image as Intel HEX.
+#[no_mangle]
+pub extern "C" fn lyre_hex_write(image: &[u8], text: &mut [u8]) -> Hex
+    ensures { λ r. ⌜ outcome (hexIn r) (now (text .exit)) ≡ writeOf (now (image .entry)) (now (text .entry)) ⌝ }
+{
+    plain_hex(hex::write_image(image, text))
+}
+
+// Reads Intel HEX into an image.
+#[no_mangle]
+pub extern "C" fn lyre_hex_read(text: &[u8], image: &mut [u8]) -> Hex
+    ensures { λ r. ⌜ outcome (hexIn r) (now (image .exit)) ≡ readOf (now (text .entry)) (now (image .entry)) ⌝ }
+{
+    plain_hex(hex::read_image(text, image))
 }
