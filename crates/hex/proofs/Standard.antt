@@ -12,15 +12,28 @@ use Rattle.hex.specs.Records.{bodyOf, checksum, recordOf, lineOf, dataKi
 use Rattle.hex.specs.Inside.{headOf, tailOf}
 use Rattle.hex.proofs.Digits.{length-digits, digits-append}
 
--- the line of a data record: what stands before the data, the data, and what stands behind them
-pub line-parts : (address : ℕ) (bytes : List ℕ)
-    → lineOf dataKind address bytes ≡ headOf dataKind address (length bytes) ++ inDigits bytes ++ tailOf (length bytes + address / 256 + address % 256 + total bytes)
+-- three numbers and more, added up modulo 256 one after another
+added : (a b : ℕ) → (a % 256 + b) % 256 ≡ (a + b) % 256
+added a b = omega arith
+
+again : (a : ℕ) → a % 256 % 256 ≡ a % 256
+again a = omega arith
+
+pub sum-three : (a b c d : ℕ) {one two three : ℕ} → one ≡ (a + b) % 256 → two ≡ (one + c) % 256 → three ≡ (two + d) % 256
+    → three % 256 ≡ (a + b + c + d) % 256
+sum-three a b c d first second third = rw (third, second, first, added (a + b) c, added (a + b + c) d) (again (a + b + c + d))
+
+-- the line of a data record: what stands before the data, the data, and what stands behind them, for a sum as it is or modulo 256
+pub line-parts : (address : ℕ) (bytes : List ℕ) (sum : ℕ) → sum % 256 ≡ (length bytes + address / 256 + address % 256 + total bytes) % 256
+    → lineOf dataKind address bytes ≡ headOf dataKind (address / 256) (address % 256) (length bytes) ++ inDigits bytes ++ tailOf sum
 unfolding recordOf inDigits twoDigits checksum total
-line-parts address bytes =
-    let sum : length bytes + (address / 256 + (address % 256 + (0 + total bytes))) ≡ length bytes + address / 256 + address % 256 + total bytes = omega arith in
-    ap (λ (more : List ℕ). headOf dataKind address (length bytes) ++ more ++ (lineFeed ∷ [])) (digits-append bytes (checksum (bodyOf dataKind address bytes) ∷ []))
-    ∙ append-assoc (headOf dataKind address (length bytes) ++ inDigits bytes) (twoDigits _) (lineFeed ∷ [])
-    ∙ ap (λ s. headOf dataKind address (length bytes) ++ inDigits bytes ++ tailOf s) sum
+line-parts address bytes sum same =
+    let head = headOf dataKind (address / 256) (address % 256) (length bytes) in
+    let whole : length bytes + (address / 256 + (address % 256 + (0 + total bytes))) ≡ length bytes + address / 256 + address % 256 + total bytes = omega arith in
+    ap (λ (more : List ℕ). head ++ more ++ (lineFeed ∷ [])) (digits-append bytes (checksum (bodyOf dataKind address bytes) ∷ []))
+    ∙ append-assoc (head ++ inDigits bytes) (twoDigits _) (lineFeed ∷ [])
+    ∙ ap (λ s. head ++ inDigits bytes ++ tailOf s) whole
+    ∙ ap (λ s. head ++ inDigits bytes ++ (twoDigits ((256 - s) % 256) ++ (lineFeed ∷ []))) (sym same)
 
 -- the text from an address on: the records that are left, and the end record
 unfoldable pub textFrom : List ℕ → ℕ → List ℕ
@@ -48,7 +61,7 @@ text-end image address past = let none : (length image - address + 15) / 16 ≡ 
 pub length-line : (address : ℕ) (bytes : List ℕ) → length (lineOf dataKind address bytes) ≡ 12 + 2 * length bytes
 unfolding inDigits twoDigits
 length-line address bytes =
-    ap length (line-parts address bytes) ∙ simp (length-append, length-digits) (omega arith)
+    ap length (line-parts address bytes _ refl) ∙ simp (length-append, length-digits) (omega arith)
 
 pub length-end : length (lineOf endKind 0 []) ≡ 12
 unfolding recordOf inDigits twoDigits

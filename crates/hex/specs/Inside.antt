@@ -17,8 +17,8 @@ use Rattle.hex.specs.Faults.{lawful, memory, someTaken, allTaken}
 use Rattle.hex.specs.Doors.{outcome, readLines}
 
 -- what stands before the data of a record, and what stands behind them where the bytes before have a sum
-abbrev pub headOf : ℕ → ℕ → ℕ → List ℕ
-headOf kind address count = colon ∷ inDigits (count ∷ address / 256 ∷ address % 256 ∷ kind ∷ [])
+abbrev pub headOf : ℕ → ℕ → ℕ → ℕ → List ℕ
+headOf kind high low count = colon ∷ inDigits (count ∷ high ∷ low ∷ kind ∷ [])
 
 abbrev pub tailOf : ℕ → List ℕ
 tailOf sum = twoDigits ((256 - sum % 256) % 256) ++ (lineFeed ∷ [])

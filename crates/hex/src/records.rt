@@ -1,5 +1,7 @@
 // The standard text, record by record. Each function writes into a lent text from an index on, asks for room for what it writes,
 // and answers the index past it.
+use std::num::wrapping_add_u8;
+use std::num::wrapping_sub_u8;
 ghost use Prim.Native.Nat.{_+_, _*_, _/_, _%_, _≤_, _<_};
 ghost use mathlib.Core.Path.{_≡_};
 ghost use mathlib.Core.List.{[], _∷_, _++_};
@@ -29,47 +31,40 @@ fn write_pair(byte: u8, text: &mut [u8], at: usize) -> usize
     text::write_byte(sign_of(byte % 16), text, next)
 }
 
-// A byte as a wider number.
-fn wide(byte: u8) -> usize
-    ensures { λ r. ⌜ (r ≡ byte) × (r < 256) ⌝ }
+// Writes bytes as digits, and answers a sum with theirs added to it, modulo 256.
+fn write_pairs(sum: u8, bytes: &[u8], text: &mut [u8], at: usize) -> u8
+    requires { ⌜ at + 2 * length (now bytes) ≤ length (now text) ⌝ }
+    ensures { λ r. ⌜ (r ≡ (sum + total (now (bytes .entry))) % 256) × Wrote (now (text .entry)) at (inDigits (now (bytes .entry))) (at + 2 * length (now (bytes .entry))) (now (text .exit)) ⌝ }
 {
-    byte as usize
-}
-
-// Writes bytes as digits, and answers their sum.
-fn write_pairs(bytes: &[u8], text: &mut [u8], at: usize) -> usize
-    requires { ⌜ (length (now bytes) ≤ 16) × (at + 2 * length (now bytes) ≤ length (now text)) ⌝ }
-    ensures { λ r. ⌜ (r ≡ total (now (bytes .entry))) × (r ≤ 4080) × Wrote (now (text .entry)) at (inDigits (now (bytes .entry))) (at + 2 * length (now (bytes .entry))) (now (text .exit)) ⌝ }
-{
-    let mut sum = 0;
+    let mut sum = sum;
     let mut next = at;
     let mut done = 0;
     while done < bytes.len() {
         next = write_pair(bytes[done], text, next);
-        sum += wide(bytes[done]);
+        sum = wrapping_add_u8(sum, bytes[done]);
         done += 1;
     }
     sum
 }
 
 // Writes what stands before the data of a data record: the colon, how many bytes there are, the address and the type.
-fn write_head(count: u8, address: u16, text: &mut [u8], at: usize) -> usize
+fn write_head(count: u8, high: u8, low: u8, text: &mut [u8], at: usize) -> usize
     requires { ⌜ at + 9 ≤ length (now text) ⌝ }
-    ensures { λ r. ⌜ Wrote (now (text .entry)) at (headOf dataKind address count) r (now (text .exit)) ⌝ }
+    ensures { λ r. ⌜ Wrote (now (text .entry)) at (headOf dataKind high low count) r (now (text .exit)) ⌝ }
 {
-    let counted = text::write_byte(b':', text, at);
-    let high = write_pair(count, text, counted);
-    let low = write_pair((address / 256) as u8, text, high);
-    let kind = write_pair((address % 256) as u8, text, low);
-    write_pair(0, text, kind)
+    let first = text::write_byte(b':', text, at);
+    let second = write_pair(count, text, first);
+    let third = write_pair(high, text, second);
+    let fourth = write_pair(low, text, third);
+    write_pair(0, text, fourth)
 }
 
 // Writes what stands behind the data: the checksum and the line feed.
-fn write_tail(sum: usize, text: &mut [u8], at: usize) -> usize
+fn write_tail(sum: u8, text: &mut [u8], at: usize) -> usize
     requires { ⌜ at + 3 ≤ length (now text) ⌝ }
     ensures { λ r. ⌜ Wrote (now (text .entry)) at (tailOf sum) r (now (text .exit)) ⌝ }
 {
-    let next = write_pair(((256 - sum % 256) % 256) as u8, text, at);
+    let next = write_pair(wrapping_sub_u8(0, sum), text, at);
     text::write_byte(b'\n', text, next)
 }
 
@@ -78,10 +73,13 @@ fn write_line(address: usize, bytes: &[u8], text: &mut [u8], at: usize) -> usize
     requires { ⌜ (address < 65536) × (length (now bytes) ≤ 16) × (at + 12 + 2 * length (now bytes) ≤ length (now text)) ⌝ }
     ensures { λ r. ⌜ Wrote (now (text .entry)) at (lineOf dataKind address (now (bytes .entry))) r (now (text .exit)) ⌝ }
 {
-    let count = bytes.len();
-    let next = write_head(count as u8, address as u16, text, at);
-    let sum = write_pairs(bytes, text, next);
-    write_tail(count + address / 256 + address % 256 + sum, text, next + 2 * count)
+    let count = bytes.len() as u8;
+    let high = (address / 256) as u8;
+    let low = (address % 256) as u8;
+    let next = write_head(count, high, low, text, at);
+    let sum = wrapping_add_u8(wrapping_add_u8(count, high), low);
+    let sum = write_pairs(sum, bytes, text, next);
+    write_tail(sum, text, next + 2 * bytes.len())
 }
 
 // Writes the line of the end record.

@@ -70,9 +70,7 @@ write-head-spec =
     (tie.spec
     (λ c κs. search needs)
     (λ c κs. search needs)
-    (λ c. search needs)
     write-pair-requires-2
-    (λ c. search needs)
     write-pair-requires-3
     write-pair-requires-4
     (λ c. search needs)

@@ -1,7 +1,7 @@
 -- `write_pairs` meets its contract. The invariant of its loop: the first `done` bytes were written and added up. The measure is what
 -- is left of them.
-use Prim.Native.Nat.{_+_, _≤_, _-_, _*_}
-use mathlib.Core.Path.{_≡_, refl, sym, _∙_}
+use Prim.Native.Nat.{_+_, _≤_, _-_, _*_, _%_}
+use mathlib.Core.Path.{_≡_, refl, sym, ap, _∙_}
 use native.Mathlib.Omega.{arith}
 use borrow.Author.Needs.{needs}
 use lib.ListN.{length, take}
@@ -14,24 +14,22 @@ use Rattle.hex.proofs.records.write_pairs.Statement.{statement}
 use Rattle.hex.proofs.records.write_pairs.Tie as tie
 
 abbrev Inv-loop : tie.InvT-loop
-Inv-loop bytes text₀ at sum₀ next₀ done₀ text sum next done = record {
+Inv-loop start bytes text₀ at sum₀ next₀ done₀ text sum next done = record {
   inside : done ≤ length bytes;
-  sums : sum ≡ total (take done bytes);
-  small : sum ≤ 255 * done;
+  sums : sum ≡ (start + total (take done bytes)) % 256;
   place : next ≡ at + 2 * done;
   wrote : Wrote text₀ at (inDigits (take done bytes)) next text;
   same : length text ≡ length text₀;
 }
 
 abbrev μ-loop : tie.MeasureT-loop
-μ-loop bytes text₀ at sum₀ next₀ done₀ text sum next done = length bytes - done
+μ-loop start bytes text₀ at sum₀ next₀ done₀ text sum next done = length bytes - done
 
 loop-holds : tie.Need-loop-holds Inv-loop μ-loop
 unfolding inDigits total
 loop-holds c = record {
   inside = omega arith;
-  sums = refl;
-  small = omega arith;
+  sums = omega (arith, c .before .before .fits .sum);
   place = omega arith;
   wrote = wrote-none _ _ (omega (arith, c .before .before .pre));
   same = refl;
@@ -43,26 +41,16 @@ write-pair-requires c κs =
     let inv = turn .before .loop .inv in
     omega (arith, turn .loop-test .taken, inv .place, inv .same, turn .before .before .before .before .pre)
 
--- a turn of the loop
-abbrev turn : tie.After-wide Inv-loop μ-loop → tie.In-loop Inv-loop μ-loop
-turn c = c .before .before .before .before .before .before .before
-
-add-sum : tie.Need-add-sum Inv-loop μ-loop
-add-sum c =
-    let turn = turn c in
-    (omega (arith, c .wide .ensures, turn .before .loop .inv .small, turn .loop-test .taken, turn .before .before .before .before .pre))
-
 loop-again : tie.Need-loop-again Inv-loop μ-loop
 unfolding twoDigits
 loop-again c =
-    let turn = turn c in
     let pair = c .before .before .before .before in
+    let turn = pair .before .before .before in
     let inv = turn .before .loop .inv in
     let start = turn .before .before .before .before in
     record {
       inside = omega (arith, turn .loop-test .taken);
-      sums = omega (arith, c .wide .ensures, inv .sums) ∙ sym (total-next _ _ (turn .loop-test .taken));
-      small = omega (arith, c .wide .ensures, inv .small);
+      sums = c .wrapping-add-u8 .ensures ∙ rw (inv .sums, total-next _ _ (turn .loop-test .taken)) (omega arith);
       place = omega (arith, inv .place, pair .write-pair .ensures .ends);
       wrote = rw (digits-next _ _ (turn .loop-test .taken))
           (wrote-on _ _ (omega (arith, turn .loop-test .taken, inv .place, pair .write-pair .ensures .ends, start .pre)) (inv .wrote) (pair .write-pair .ensures));
@@ -77,8 +65,10 @@ returns c =
     let inv = c .before .loop .inv in
     (
       rw (take-all _ _ (c .loop-test .left)) at (inv .sums),
-      omega (arith, inv .small, inv .inside, c .before .before .before .before .pre),
-      record { ends = omega (arith, length-digits (c .before .before .before .before .args .bytes .now)); holds = rw (take-all _ _ (c .loop-test .left)) at (inv .wrote .holds) }
+      record {
+        ends = omega (arith, length-digits (c .before .before .before .before .args .bytes .now));
+        holds = rw (take-all _ _ (c .loop-test .left)) at (inv .wrote .holds);
+      }
     )
 
 pub write-pairs-spec : {M : Type 1} → statement M
@@ -91,8 +81,7 @@ write-pairs-spec =
     (λ c. search needs)
     write-pair-requires
     (λ c. search needs)
-    (λ c. search needs)
-    add-sum
+    (λ c κs. search needs)
     (λ c. search needs)
     (λ c. search needs)
     loop-again
