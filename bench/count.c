@@ -8,7 +8,7 @@
 #include <ucontext.h>
 
 static volatile uint64_t instructions;
-static uint64_t last_place, around_writing, around_reading;
+static uint64_t last_place, around_writing, around_reading, around_hex;
 
 /* A repeated string instruction traps once a round at one and the same place, and counts as one instruction. */
 static void on_trap(int number, siginfo_t *information, void *context)
@@ -22,7 +22,7 @@ static void on_trap(int number, siginfo_t *information, void *context)
 #define trap_on() __asm__ volatile("pushfq\n\torq $0x100, (%%rsp)\n\tpopfq" ::: "memory", "cc")
 #define trap_off() __asm__ volatile("pushfq\n\tandq $~0x100, (%%rsp)\n\tpopfq" ::: "memory", "cc")
 
-/* A door of one instruction, which does for both kinds. */
+/* A door of one instruction, which does for every kind. */
 __asm__(".text\n.globl door_that_returns\ndoor_that_returns:\n\tret\n");
 writing_door door_that_returns;
 
@@ -45,6 +45,16 @@ static __attribute__((noinline)) uint64_t reading(reading_door *door, const uint
     return instructions;
 }
 
+static __attribute__((noinline)) uint64_t hex(hex_door *door, const uint8_t *from, size_t length, uint8_t *into, size_t room,
+                                              lyre_hex *answer)
+{
+    instructions = 0;
+    trap_on();
+    *answer = door(from, length, into, room);
+    trap_off();
+    return instructions;
+}
+
 void count_begin(void)
 {
     struct sigaction action;
@@ -57,8 +67,10 @@ void count_begin(void)
     uint32_t lives[1];
     lyre_answer answer;
     lyre_read_answer read_answer;
+    lyre_hex hex_answer;
     around_writing = writing(door_that_returns, image, lives, (places){0}, &answer) - 1;
     around_reading = reading((reading_door *)(void *)door_that_returns, image, (places){0}, &read_answer) - 1;
+    around_hex = hex((hex_door *)(void *)door_that_returns, image, 0, image, 0, &hex_answer) - 1;
 }
 
 uint64_t count_writing(writing_door *door, uint8_t *image, uint32_t *lives, places at, lyre_answer *answer)
@@ -69,4 +81,9 @@ uint64_t count_writing(writing_door *door, uint8_t *image, uint32_t *lives, plac
 uint64_t count_reading(reading_door *door, const uint8_t *image, places at, lyre_read_answer *answer)
 {
     return reading(door, image, at, answer) - around_reading;
+}
+
+uint64_t count_hex(hex_door *door, const uint8_t *from, size_t length, uint8_t *into, size_t room, lyre_hex *answer)
+{
+    return hex(door, from, length, into, room, answer) - around_hex;
 }

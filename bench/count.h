@@ -9,6 +9,7 @@
 
 typedef lyre_answer writing_door(uint8_t *image, size_t n, uint32_t *lives, size_t lives_n, size_t m, size_t s, size_t e);
 typedef lyre_read_answer reading_door(const uint8_t *image, size_t n, size_t m, size_t s, size_t e);
+typedef lyre_hex hex_door(const uint8_t *from, size_t length, uint8_t *into, size_t room);
 
 typedef struct {
     size_t n, m, s, e;
@@ -19,5 +20,6 @@ void count_begin(void);
 /* Call the door once and give its instructions, from its first to its return, both included. */
 uint64_t count_writing(writing_door *door, uint8_t *image, uint32_t *lives, places at, lyre_answer *answer);
 uint64_t count_reading(reading_door *door, const uint8_t *image, places at, lyre_read_answer *answer);
+uint64_t count_hex(hex_door *door, const uint8_t *from, size_t length, uint8_t *into, size_t room, lyre_hex *answer);
 
 #endif

@@ -69,7 +69,25 @@ typedef struct {
     uint64_t length; /* 11; 0 on a refusal */
 } lyre_part;
 
-/* In all four: n bytes of image, the map's 24 cells from m, the area from s to e, e included. lives[i] is the number of good
+/* What the two doors of Intel HEX answer. Their codes are their own:
+    0  good
+    1  a line is malformed: no colon first, a character that is no digit, a count of digits that does not fit, a record of type 00
+       without data or of type 01 with data or an address other than 0, any line after the end record, or a line without its end
+    2  a line's checksum is wrong
+    3  a record of a type other than 00 and 01
+    4  an address at or past n
+    5  an address that was there before, even with the same byte
+    6  an address below n is missing, or the end record is
+    7  n is outside 41..4096
+    8  room is less than the text needs, which is 2 n + 12 times the number of records + 12
+   7 and 8 are tested first, then line by line 1 to 5, and 6 last. A refusal changes neither text nor image. */
+typedef struct {
+    uint32_t code;
+    uint64_t line;   /* the first line at fault, counted from 1; in refusal 6 the last line, 0 if there is none; else 0 */
+    uint64_t length; /* of the text that was written; 0 when reading and on a refusal */
+} lyre_hex;
+
+/* In the first four: n bytes of image, the map's 24 cells from m, the area from s to e, e included. lives[i] is the number of good
    writes left in cell i, and lives_n has to be n. */
 
 /* Opens the image: settles a count that is there, or makes map and count 0 where there is no mark.
@@ -85,6 +103,14 @@ lyre_answer lyre_step(uint8_t *image, size_t n, uint32_t *lives, size_t lives_n,
 
 /* Says where in the image the pointers of copy 1 or 2 stand. The count need not be readable for it. */
 lyre_part lyre_map_part(const uint8_t *image, size_t n, size_t m, size_t s, size_t e, uint32_t copy);
+
+/* Writes any n bytes as Intel HEX: records of 16 bytes in rising order, capital digits, a line feed behind each line, and the end
+   record. What stands in text past the part written is kept. */
+lyre_hex lyre_hex_write(const uint8_t *image, size_t n, uint8_t *text, size_t room);
+
+/* Reads Intel HEX into an image of n bytes: records of 1 to 255 bytes in any order, digits in either letter case, lines ended by a
+   line feed or by a carriage return and a line feed. Any bytes are a text, of any length. */
+lyre_hex lyre_hex_read(const uint8_t *text, size_t length, uint8_t *image, size_t n);
 
 #ifdef __cplusplus
 }
