@@ -1,8 +1,9 @@
 -- Bytes read one after another from a text, and stored one after another.
-use Prim.Native.Nat.{ℕ, zero, suc, _+_, _*_, _<_, _≤_}
+use Prim.Native.Nat.{ℕ, zero, suc, _+_, _*_, _%_, _<_, _≤_}
 use mathlib.Core.Path.{_≡_, refl, sym, ap, _∙_}
-use mathlib.Core.Bool.{Bool, true, false, _&&_, _||_, and-assoc, and-false, or-assoc, or-false}
+use mathlib.Core.Bool.{Bool, true, false, _&&_, _||_, and-assoc, and-false, or-assoc, or-false, true≢false}
 use mathlib.Core.List.{List, [], _∷_, _++_}
+use native.Mathlib.Decide.{decLe}
 use native.Mathlib.Nat.{add-zero}
 use native.Mathlib.Omega.{arith}
 use native.Mathlib.Numerals.{add-one}
@@ -10,11 +11,12 @@ use borrow.Author.Tests.{lt-ltb, le-ltb, ltb-true}
 use lib.ListN.{length, getD, take, drop, set, length-set, length-drop}
 use lib.Dec.{ltb}
 use lib.Seq.{sets, take-suc, getD-drop, getD-set-other}
-use Rattle.hex.specs.Signs.{byteAt, bytesAt, total}
+use Rattle.hex.specs.Signs.{noDigit, byteAt, bytesAt, total}
 use Rattle.hex.specs.Faults.{notYet, someTaken}
 use Rattle.hex.specs.Inside.{allBytes}
 use Rattle.hex.proofs.Digits.{total-append}
-use Rattle.hex.proofs.LineLaws.{both}
+use Rattle.hex.proofs.LineLaws.{choose, both}
+use Rattle.hex.proofs.Values.{byte-kinds}
 
 pub length-bytes : (text : List ℕ) (at n : ℕ) → length (bytesAt text at n) ≡ n
 unfolding bytesAt
@@ -43,27 +45,35 @@ unfolding allBytes
 all-append [] ys = refl
 all-append (x ∷ xs) ys = rw (all-append xs ys) (sym (and-assoc (ltb x 256) (allBytes xs) (allBytes ys)))
 
--- where one is none, not all are bytes
-pub not-all : (text : List ℕ) (at n k : ℕ) → k < n → 256 ≤ byteAt text (at + 2 * k) → allBytes (bytesAt text at n) ≡ false
-unfolding bytesAt allBytes
-not-all text at zero k inside large = absurd (omega arith)
-not-all text at (suc n) zero inside large =
-    let first : at + 2 * 0 ≡ at = omega arith in
-    rw (le-ltb (byteAt text at) 256 (rw first at large))
-not-all text at (suc n) (suc k) inside large =
-    let next : at + 2 * suc k ≡ at + 2 + 2 * k = omega arith in
-    rw (not-all text (at + 2) n k (omega arith) (rw next at large)) (and-false (ltb (byteAt text at) 256))
+-- where all of some and one more are bytes
+pub all-next : (text : List ℕ) (at k : ℕ) → allBytes (bytesAt text at (k + 1)) ≡ true → (allBytes (bytesAt text at k) ≡ true) × (byteAt text (at + 2 * k) < 256)
+unfolding allBytes
+all-next text at k all =
+    let (before, last) = both (allBytes (bytesAt text at k)) (ltb (byteAt text (at + 2 * k)) 256 && true) (rw (bytes-next text at k, all-append) at all) in
+    (before, ltb-true (byteAt text (at + 2 * k)) 256 (both (ltb (byteAt text (at + 2 * k)) 256) true last .0))
 
--- where all are, each is
-pub each-byte : (text : List ℕ) (at n k : ℕ) → k < n → allBytes (bytesAt text at n) ≡ true → byteAt text (at + 2 * k) < 256
-unfolding bytesAt allBytes
-each-byte text at zero k inside all = absurd (omega arith)
-each-byte text at (suc n) zero inside all =
-    let first : at + 2 * 0 ≡ at = omega arith in
-    rw first (ltb-true (byteAt text at) 256 (both (ltb (byteAt text at) 256) (allBytes (bytesAt text (at + 2) n)) all .0))
-each-byte text at (suc n) (suc k) inside all =
-    let next : at + 2 * suc k ≡ at + 2 + 2 * k = omega arith in
-    rw next (each-byte text (at + 2) n k (omega arith) (both (ltb (byteAt text at) 256) (allBytes (bytesAt text (at + 2) n)) all .1))
+-- what is no byte shows in the sum of some
+sum-bytes : (text : List ℕ) (at n : ℕ) → allBytes (bytesAt text at n) ≡ true → total (bytesAt text at n) ≤ 255 * n
+unfolding bytesAt allBytes total
+sum-bytes text at zero all = omega arith
+sum-bytes text at (suc n) all =
+    let (byte, more) = both (ltb (byteAt text at) 256) (allBytes (bytesAt text (at + 2) n)) all in
+    omega (arith, ltb-true (byteAt text at) 256 byte, sum-bytes text (at + 2) n more)
+
+sum-none : (text : List ℕ) (at n : ℕ) → allBytes (bytesAt text at n) ≡ false → noDigit ≤ total (bytesAt text at n)
+unfolding bytesAt allBytes total
+sum-none text at zero none = absurd (true≢false none)
+sum-none text at (suc n) none =
+    elim (decLe 256 (byteAt text at)) [
+      | yes large ↦ omega (arith, byte-kinds text at large)
+      | no byte ↦ omega (arith, sum-none text (at + 2) n (rw (lt-ltb (byteAt text at) 256 (omega (arith, byte))) at none))
+    ]
+
+pub formed-sum : (text : List ℕ) (at n : ℕ) → n < 256 → ltb (total (bytesAt text at n)) 65536 ≡ allBytes (bytesAt text at n)
+formed-sum text at n few =
+    choose (allBytes (bytesAt text at n))
+    (λ all. lt-ltb (total (bytesAt text at n)) 65536 (omega (arith, few, sum-bytes text at n all)) ∙ sym all)
+    (λ none. le-ltb (total (bytesAt text at n)) 65536 (sum-none text at n none) ∙ sym none)
 
 pub total-next-byte : (text : List ℕ) (at k : ℕ) → total (bytesAt text at (k + 1)) ≡ total (bytesAt text at k) + byteAt text (at + 2 * k)
 unfolding total
@@ -106,10 +116,12 @@ head-bytes text at =
 
 -- of cells in which so many bytes were stored: the next one is stored, and its cell is looked at
 module _ {cells : List ℕ} (before text : List ℕ) (at address k : ℕ) (stored : cells ≡ sets before address (bytesAt text at k)) where
-  pub stored-next : {byte : ℕ} → byte ≡ byteAt text (at + 2 * k) → set cells (address + k) byte ≡ sets before address (bytesAt text at (k + 1))
-  stored-next {byte} read =
+  pub stored-next : (byte : ℕ) → byte ≡ byteAt text (at + 2 * k) → byte < 256
+      → set cells (address + k) (byte % 256) ≡ sets before address (bytesAt text at (k + 1))
+  stored-next byte read small =
+      let whole : byte % 256 ≡ byte = omega (arith, small) in
       let next = sets-next (bytesAt text at k) before address (byteAt text (at + 2 * k)) in
-      rw (stored, read, bytes-next text at k) (sym (rw (length-bytes text at k) at next))
+      rw (whole, stored, read, bytes-next text at k) (sym (rw (length-bytes text at k) at next))
 
   pub looked-next : {twice : Bool} → twice ≡ someTaken (take k (drop address before)) → address + k < length before
       → (twice || ltb (getD cells (address + k) 0) notYet) ≡ someTaken (take (k + 1) (drop address before))

@@ -1,6 +1,6 @@
 -- The first line of a text from an index on, and the line that begins there: a line in form is one whose parts stand at the index, and
 -- the next line begins where it ends.
-use Prim.Native.Nat.{ℕ, zero, suc, _+_, _*_, _-_, _<_, _≤_}
+use Prim.Native.Nat.{ℕ, zero, suc, _+_, _*_, _<_, _≤_}
 use mathlib.Core.Path.{_≡_, refl, sym, ap, _∙_}
 use mathlib.Core.Bool.{Bool, true, false, cond, not, _&&_, true≢false}
 use mathlib.Core.List.{List, [], _∷_, _++_, head-eq-of-cons-eq, tail-eq-of-cons-eq}
@@ -8,16 +8,17 @@ use mathlib.Core.Logic.{_⊎_, inl, inr}
 use native.Mathlib.Decide.{decLe}
 use native.Mathlib.Omega.{arith}
 use native.Mathlib.Numerals.{add-one}
-use borrow.Author.Tests.{eq-eqb, ne-eqb, eqb-true, lt-ltb, ltb-true, leb-true}
-use lib.Dec.{eqb, ltb, leb}
+use borrow.Author.Tests.{eq-eqb, ne-eqb, eqb-true, lt-ltb, ltb-true}
+use lib.Dec.{eqb, ltb}
 use lib.ListN.{length, take, drop, getD, length-append, length-take, length-drop, take-append-drop, List·getD-append, List·getD-eq-default}
 use lib.Seq.{sets, drop-cons, drop-drop, getD-drop, getD-append-add, drop-append-add}
-use Rattle.hex.specs.Signs.{lineFeed, carriageReturn, colon, within, valueOf, byteAt, bytesAt}
+use Rattle.hex.specs.Signs.{lineFeed, carriageReturn, colon, valueOf, byteAt, bytesAt}
 use Rattle.hex.specs.Records.{endKind}
 use Rattle.hex.specs.Lines.{Line, line, linesOf}
 use Rattle.hex.specs.Faults.{countOf, addressOf, kindOf, allDigits, colonAndDigits, wholeLength, lawful, inForm, memory, faultOf, after}
 use Rattle.hex.specs.Inside.{allBytes, endAt, countAt, addressAt, kindAt, dataAt, allAt, nextAt, formedAt, fault, faultAt}
 use Rattle.hex.proofs.LineLaws.{choose, both, line-feed, line-return, ended-line, digits-plain}
+use Rattle.hex.proofs.Values.{digit-of}
 use Rattle.hex.proofs.Forms.{end-inside}
 use Rattle.hex.proofs.RecordLaws.{Bytes}
 use Rattle.hex.proofs.ReadLaws.{data-bytes}
@@ -146,21 +147,6 @@ not-past text at feed =
       | no inside ↦ omega (arith, inside)
     ]
 
--- no sign counts from 16 to 255
-value-kinds : (sign : ℕ) → valueOf sign < 256 → valueOf sign < 16
-unfolding valueOf
-value-kinds sign =
-    kinds (within 48 57 sign) (within 65 70 sign) (within 97 102 sign) (below 48 57 48 (omega arith)) (below 65 70 55 (omega arith)) (below 97 102 87 (omega arith))
-  where
-    kinds : (a b c : Bool) {x y z : ℕ} → (a ≡ true → x < 16) → (b ≡ true → y < 16) → (c ≡ true → z < 16)
-        → cond a x (cond b y (cond c z 256)) < 256 → cond a x (cond b y (cond c z 256)) < 16
-    kinds true b c first second third small = first refl
-    kinds false true c first second third small = second refl
-    kinds false false true first second third small = third refl
-    kinds false false false first second third small = absurd (omega (arith, small))
-    below : (low high less : ℕ) → high < less + 16 → within low high sign ≡ true → sign - less < 16
-    below low high less few inside = omega (arith, few, leb-true sign high (both (leb low sign) (leb sign high) inside .1))
-
 -- the first sign from an index on, and the first two
 pub one-more : (text : List ℕ) (at : ℕ) → at < length text → drop at text ≡ getD text at 0 ∷ drop (at + 1) text
 one-more text at inside = let next : suc at ≡ at + 1 = omega arith in rw next at (drop-cons text at 0 inside)
@@ -181,7 +167,7 @@ pair-digits text at (suc n) inside bytes =
     let (byte, more) = both (ltb (16 * high + low) 256) (allBytes (bytesAt text (at + 2) n)) bytes in
     let small = ltb-true (16 * high + low) 256 byte in
     ap (λ (l : List ℕ). allDigits (take (2 * suc n) l)) (two-more text at (omega arith))
-    ∙ rw (two, lt-ltb high 16 (omega (arith, small)), lt-ltb low 16 (value-kinds (getD text (at + 1) 0) (omega (arith, small))))
+    ∙ rw (two, lt-ltb high 16 (omega (arith, small)), lt-ltb low 16 (digit-of (getD text (at + 1) 0) (omega (arith, small))))
       (pair-digits text (at + 2) n (omega arith) more)
 
 -- a line end that stands at an index

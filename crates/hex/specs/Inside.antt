@@ -87,7 +87,7 @@ pub record HeadIs (text : List ℕ) (at : ℕ) (head : Head) : Type 0 where
 -- the data read from an index of a text into cells from an address on
 pub record DataIs (text : List ℕ) (at count : ℕ) (before : List ℕ) (address : ℕ) (read : Data) (after : List ℕ) : Type 0 where
   pub formed : read .formed ≡ allBytes (bytesAt text at count)
-  pub small : read .sum < 65536
+  pub small : read .sum < 4294967296
   pub sum : read .formed ≡ true → read .sum ≡ total (bytesAt text at count)
   pub twice : read .formed ≡ true → read .twice ≡ someTaken (take count (drop address before))
   pub stored : read .formed ≡ true → after ≡ sets before address (bytesAt text at count)

@@ -18,9 +18,9 @@ colon = 58
 unfoldable pub digit : ℕ → ℕ
 digit d = cond (ltb d 10) (48 + d) (55 + d)
 
--- what a sign that is no digit counts: with it no pair makes a byte
+-- what a sign that is no digit counts: more than a byte, and than all bytes of a line together
 abbrev pub noDigit : ℕ
-noDigit = 256
+noDigit = 65536
 
 abbrev pub within : ℕ → ℕ → ℕ → Bool
 within low high sign = leb low sign && leb sign high

@@ -6,18 +6,18 @@ ghost use mathlib.Core.List.{[], _∷_};
 ghost use lib.ListN.{length, take, drop, getD};
 ghost use lib.Dec.{eqb, ltb};
 ghost use lib.Seq.{sets};
-ghost use Rattle.hex.specs.Signs.{colon, valueOf, byteAt, bytesAt, total};
+ghost use Rattle.hex.specs.Signs.{colon, noDigit, valueOf, byteAt, bytesAt, total};
 ghost use Rattle.hex.specs.Faults.{notYet, lawful, someTaken};
 ghost use Rattle.hex.specs.Inside.{Laid, allBytes, endAt, fault, faultAt, HeadIs, DataIs, Judged, LineIs};
 
 // A cell that has no byte yet.
 pub(crate) const NOT_YET: u16 = 256;
 
-// What each sign counts as a digit, or 256.
-pub(crate) fn laid() -> [u16; 256]
+// What each sign counts as a digit, or 65536.
+pub(crate) fn laid() -> [u32; 256]
     ensures { λ r. ⌜ Laid r ⌝ }
 {
-    let mut values = [256u16; 256];
+    let mut values = [65536u32; 256];
     values[48] = 0;
     values[49] = 1;
     values[50] = 2;
@@ -44,17 +44,17 @@ pub(crate) fn laid() -> [u16; 256]
 }
 
 // What a sign counts.
-fn value_in(values: &[u16; 256], sign: u8) -> usize
+fn value_in(values: &[u32; 256], sign: u8) -> usize
     requires { ⌜ Laid (now values) ⌝ }
-    ensures { λ r. ⌜ (r ≡ valueOf sign) × (r ≤ 256) ⌝ }
+    ensures { λ r. ⌜ (r ≡ valueOf sign) × (r ≤ noDigit) ⌝ }
 {
     values[sign as usize] as usize
 }
 
 // The byte whose two digits stand at an index and the next one; 256 or more where one is no digit.
-fn byte_at(values: &[u16; 256], text: &[u8], at: usize) -> usize
+fn byte_at(values: &[u32; 256], text: &[u8], at: usize) -> usize
     requires { ⌜ Laid (now values) × (at + 1 < length (now text)) ⌝ }
-    ensures { λ r. ⌜ (r ≡ byteAt (now (text .entry)) at) × (r < 4353) ⌝ }
+    ensures { λ r. ⌜ (r ≡ byteAt (now (text .entry)) at) × (r ≤ 17 * noDigit) ⌝ }
 {
     16 * value_in(values, text[at]) + value_in(values, text[at + 1])
 }
@@ -109,7 +109,7 @@ fn is_head(sign: u8, count: usize, high: usize, low: usize, kind: usize) -> bool
 }
 
 // Reads what stands before the data of the line that begins at an index.
-fn head_at(values: &[u16; 256], text: &[u8], at: usize) -> Head
+fn head_at(values: &[u32; 256], text: &[u8], at: usize) -> Head
     requires { ⌜ Laid (now values) × (at + 9 ≤ length (now text)) ⌝ }
     ensures { λ r. ⌜ HeadIs (now (text .entry)) at r ⌝ }
 {
@@ -145,9 +145,9 @@ fn or_taken(twice: bool, cell: u16) -> bool
     twice
 }
 
-// Reads so many bytes of data into cells.
+// Reads so many bytes of data into cells. One that is none shows in the sum, so that nothing is tested on the way.
 fn read_data(
-    values: &[u16; 256],
+    values: &[u32; 256],
     text: &[u8],
     at: usize,
     count: usize,
@@ -162,21 +162,14 @@ fn read_data(
     let mut done = 0;
     while done < count {
         let byte = byte_at(values, text, at + 2 * done);
-        if byte >= 256 {
-            return Data {
-                formed: false,
-                sum,
-                twice,
-            };
-        }
         let place = address + done;
         twice = or_taken(twice, cells[place]);
-        cells[place] = byte as u16;
+        cells[place] = (byte % 256) as u16;
         sum += byte;
         done += 1;
     }
     Data {
-        formed: true,
+        formed: sum < 65536,
         sum,
         twice,
     }
@@ -246,14 +239,14 @@ fn malformed() -> Read
 
 // Reads what stands behind the data of a line, from its checksum on, and judges the line.
 fn judge(
-    values: &[u16; 256],
+    values: &[u32; 256],
     text: &[u8],
     at: usize,
     head: Head,
     held: Data,
     size: usize,
 ) -> Read
-    requires { ⌜ Laid (now values) × (at + 3 ≤ length (now text)) × (head .address < 65536) × (head .count < 256) × (head .sum < 65536) × (held .sum < 65536) ⌝ }
+    requires { ⌜ Laid (now values) × (at + 3 ≤ length (now text)) × (head .address < 65536) × (head .count < 256) × (head .sum < 65536) × (held .sum < 4294967296) ⌝ }
     ensures { λ r. ⌜ Judged (now (text .entry)) at head held size r ⌝ }
 {
     if !held.formed {
@@ -287,7 +280,7 @@ fn judge(
 
 // Reads the line that begins at an index into cells. What cannot be stored is read aside, since its form and its checksum are judged
 // first.
-pub(crate) fn read_line(values: &[u16; 256], text: &[u8], at: usize, cells: &mut [u16]) -> Read
+pub(crate) fn read_line(values: &[u32; 256], text: &[u8], at: usize, cells: &mut [u16]) -> Read
     requires { ⌜ Laid (now values) × (at < length (now text)) × (length (now cells) ≤ 4096) ⌝ }
     ensures { λ r. ⌜ LineIs (now (text .entry)) at (now (cells .entry)) r (now (cells .exit)) ⌝ }
 {

@@ -4,13 +4,13 @@ use mathlib.Core.Path.{_≡_}
 use native.Mathlib.Omega.{arith}
 use borrow.Author.Needs.{needs}
 use lib.ListN.{getD}
-use Rattle.hex.specs.Signs.{valueOf}
+use Rattle.hex.specs.Signs.{noDigit, valueOf}
 use Rattle.hex.proofs.Values.{value-most}
 use Rattle.hex.proofs.lines.value_in.Statement.{statement}
 use Rattle.hex.proofs.lines.value_in.Tie as tie
 
 -- the entry of a sign
-is : (c : tie.After-result) → (getD (c .before .args .values .now) (c .before .args .sign) 0 ≡ valueOf (c .before .args .sign)) × (getD (c .before .args .values .now) (c .before .args .sign) 0 ≤ 256)
+is : (c : tie.After-result) → (getD (c .before .args .values .now) (c .before .args .sign) 0 ≡ valueOf (c .before .args .sign)) × (getD (c .before .args .values .now) (c .before .args .sign) 0 ≤ noDigit)
 is c =
     let start = c .before in
     let small : start .args .sign < 256 = omega (arith, start .fits .sign) in
