@@ -69,11 +69,11 @@ sum-none text at (suc n) none =
       | no byte ↦ omega (arith, sum-none text (at + 2) n (rw (lt-ltb (byteAt text at) 256 (omega (arith, byte))) at none))
     ]
 
-pub formed-sum : (text : List ℕ) (at n : ℕ) → n < 256 → ltb (total (bytesAt text at n)) 65536 ≡ allBytes (bytesAt text at n)
+pub formed-sum : (text : List ℕ) (at n : ℕ) → n < 512 → ltb (total (bytesAt text at n)) noDigit ≡ allBytes (bytesAt text at n)
 formed-sum text at n few =
     choose (allBytes (bytesAt text at n))
-    (λ all. lt-ltb (total (bytesAt text at n)) 65536 (omega (arith, few, sum-bytes text at n all)) ∙ sym all)
-    (λ none. le-ltb (total (bytesAt text at n)) 65536 (sum-none text at n none) ∙ sym none)
+    (λ all. lt-ltb (total (bytesAt text at n)) noDigit (omega (arith, few, sum-bytes text at n all)) ∙ sym all)
+    (λ none. le-ltb (total (bytesAt text at n)) noDigit (sum-none text at n none) ∙ sym none)
 
 pub total-next-byte : (text : List ℕ) (at k : ℕ) → total (bytesAt text at (k + 1)) ≡ total (bytesAt text at k) + byteAt text (at + 2 * k)
 unfolding total

@@ -10,17 +10,16 @@ use lib.ListN.{length, take, drop, getD}
 use Rattle.hex.specs.declared.lines.Head.{Head}
 use Rattle.hex.specs.declared.lines.Data.{Data}
 use Rattle.hex.specs.declared.lines.Read.{Read}
-use Rattle.hex.specs.Signs.{colon, byteAt, bytesAt, total}
+use Rattle.hex.specs.Signs.{colon, noDigit, bytesAt, total}
 use Rattle.hex.specs.Faults.{lawful, someTaken}
-use Rattle.hex.specs.Inside.{allBytes, endAt, countAt, addressAt, kindAt, dataAt, nextAt, fault, faultAt, HeadIs, DataIs, Judged, LineIs}
+use Rattle.hex.specs.Inside.{allBytes, endAt, countAt, addressAt, kindAt, allAt, nextAt, fault, faultAt, HeadIs, DataIs, sumWith, Judged, LineIs}
 use Rattle.hex.proofs.LineLaws.{choose, both}
-use Rattle.hex.proofs.Bytes.{head-bytes}
-use Rattle.hex.proofs.Forms.{headed, checkAt, by-tail}
+use Rattle.hex.proofs.Forms.{headed, all-total, data-all, whole-sum, by-tail}
 
--- what stands behind the data, where it is not in form
+-- a line that is not in form
 module _ (text : List ℕ) (at : ℕ) (head : Head) (held : Data) (size : ℕ) where
   abbrev behind : Bool
-  behind = held .formed && (ltb (byteAt text at) 256 && (ltb 0 (endAt text (at + 2)) && lawful (head .kind) (head .address) (head .count)))
+  behind = ltb (sumWith text at head held) noDigit && (ltb 0 (endAt text (at + 2)) && lawful (head .kind) (head .address) (head .count))
 
   pub not-in-form : (read : Read) → read .code ≡ 1 → behind ≡ false → Judged text at head held size read
   not-in-form read is-one not-so = record {
@@ -55,80 +54,65 @@ nonzero false fault other none = absurd (omega (arith, none))
 
 module _ {text : List ℕ} (before : List ℕ) {at : ℕ} {head : Head} {held : Data} {read : Read}
     (is : HeadIs text at head) (there : head .formed ≡ true) (judged : Judged text (at + 9 + 2 * head .count) head held (length before) read) where
-  -- the judgement in the parts of the line
-  abbrev rest : Bool
-  rest = held .formed && (ltb (checkAt text at) 256 && (ltb 0 (nextAt text at) && lawful (kindAt text at) (addressAt text at) (countAt text at)))
-
-  code-is : read .code
-      ≡ cond rest
-        (fault (total (bytesAt text (at + 1) 4) + held .sum + checkAt text at) (kindAt text at) (addressAt text at) (countAt text at) (length before) (held .twice))
-        1
-  code-is =
-      let ends : at + 9 + 2 * countAt text at + 2 ≡ at + 11 + 2 * countAt text at = omega arith in
-      rw (is .count, is .address, is .kind, is .sum, ends) at (judged .code)
-
-  next-is : read .code ≡ 0 → read .next ≡ nextAt text at
-  next-is none =
-      let ends : at + 9 + 2 * countAt text at + 2 ≡ at + 11 + 2 * countAt text at = omega arith in
-      rw (is .count, ends) at (judged .next none)
-
   module _ {cells after : List ℕ} {from : ℕ} (data-is : DataIs text (at + 9) (head .count) cells from held after) where
-    formed-is : held .formed ≡ allBytes (dataAt text at)
-    formed-is = rw (is .count) at (data-is .formed)
+    -- the judgement in the parts of the line
+    abbrev rest : Bool
+    rest = ltb (total (allAt text at)) noDigit && (ltb 0 (nextAt text at) && lawful (kindAt text at) (addressAt text at) (countAt text at))
 
-    sum-is : held .formed ≡ true → held .sum ≡ total (dataAt text at)
-    sum-is formed = rw (is .count) at (data-is .sum formed)
+    sum-is : sumWith text (at + 9 + 2 * head .count) head held ≡ total (allAt text at)
+    sum-is = rw (is .sum, data-is .sum, is .count) (sym (all-total text at))
 
-    -- a line of which the data are no bytes is malformed
-    no-bytes : {left : List ℕ} → held .formed ≡ false → LineIs text at before read left
-    no-bytes none =
-        malformed-line (rw none at code-is)
-        (by-tail text at before (sym (is .formed) ∙ there) ∙ rw (sym formed-is ∙ none) refl)
+    code-is : read .code
+        ≡ cond rest (fault (total (allAt text at)) (kindAt text at) (addressAt text at) (countAt text at) (length before) (held .twice)) 1
+    code-is =
+        let ends : at + 9 + 2 * countAt text at + 2 ≡ at + 11 + 2 * countAt text at = omega arith in
+        rw (sum-is, is .count, is .address, is .kind, ends) at (judged .code)
+
+    next-is : read .code ≡ 0 → read .next ≡ nextAt text at
+    next-is none =
+        let ends : at + 9 + 2 * countAt text at + 2 ≡ at + 11 + 2 * countAt text at = omega arith in
+        rw (is .count, ends) at (judged .next none)
+
+    headed-is : headed text at ≡ true
+    headed-is = sym (is .formed) ∙ there
+
+    -- where some are no bytes it is malformed
+    no-bytes : {left : List ℕ} → ltb (total (allAt text at)) noDigit ≡ false → LineIs text at before read left
+    no-bytes none = malformed-line (rw none at code-is) (by-tail text at before headed-is ∙ rw none refl)
+
+    all-data : ltb (total (allAt text at)) noDigit ≡ true → allBytes (bytesAt text (at + 9) (head .count)) ≡ true
+    all-data small = rw (is .count) (data-all text at (sym (whole-sum text at headed-is) ∙ small))
 
   -- its data were stored
   pub line-stored : {after : List ℕ} → DataIs text (at + 9) (head .count) before (head .address) held after → LineIs text at before read after
   line-stored {after} data-is =
-      choose (held .formed)
-      (λ formed. record {
+      choose (ltb (total (allAt text at)) noDigit)
+      (λ small. record {
         code =
-            rw (sum-is data-is formed, rw (is .count, is .address) at (data-is .twice formed), formed-is data-is) at code-is
-            ∙ sym (by-tail text at before (sym (is .formed) ∙ there));
-        next = next-is;
+            rw (rw (is .count, is .address) at (data-is .twice (all-data data-is small))) at (code-is data-is)
+            ∙ sym (by-tail text at before (headed-is data-is));
+        next = next-is data-is;
         closed = λ none. rw (is .kind) at (judged .closed none);
-        stored = λ none. rw (is .count, is .address) at (data-is .stored formed);
+        stored = λ none. rw (is .count, is .address) at (data-is .stored (all-data data-is small));
       })
       (no-bytes data-is)
 
   -- its data end past the cells, and were read aside
   pub line-aside : {cells aside after : List ℕ} → DataIs text (at + 9) (head .count) cells 0 held aside → length before < head .address + head .count
       → LineIs text at before read after
-  line-aside {cells} data-is past =
+  line-aside data-is past =
       let far : length before < addressAt text at + countAt text at = rw (is .count, is .address) at past in
       let other = someTaken (take (countAt text at) (drop (addressAt text at) before)) in
-      let never : read .code ≡ 0 → ⊥ = 
-          λ none. nonzero rest _ (past-fault (total (bytesAt text (at + 1) 4) + held .sum + checkAt text at) (kindAt text at) _ _ _ (held .twice) other far .1) (sym code-is ∙ none) in
-      choose (held .formed)
-      (λ formed. record {
-        code =
-            rw (sum-is data-is formed, past-fault _ _ _ _ _ (held .twice) other far .0, formed-is data-is) at code-is
-            ∙ sym (by-tail text at before (sym (is .formed) ∙ there));
+      let beyond = past-fault (total (allAt text at)) (kindAt text at) _ _ _ (held .twice) other far in
+      let never : read .code ≡ 0 → ⊥ = λ none. nonzero (rest data-is) _ (beyond .1) (sym (code-is data-is) ∙ none) in
+      record {
+        code = rw (beyond .0) at (code-is data-is) ∙ sym (by-tail text at before (headed-is data-is));
         next = λ none. absurd (never none);
         closed = λ none. absurd (never none);
         stored = λ none. absurd (never none);
-      })
-      (no-bytes data-is)
+      }
 
--- the numbers of a head that is formed
-pub head-small : {text : List ℕ} {at : ℕ} {head : Head} → HeadIs text at head → head .formed ≡ true
-    → (head .count < 256) × (head .address < 65536) × (head .sum < 65536)
-unfolding allBytes total
-head-small {text} {at} {head} is formed =
-    let bytes = both (eqb (getD text at 0) colon) (allBytes (bytesAt text (at + 1) 4)) (sym (is .formed) ∙ formed) .1 in
-    let each = rw (head-bytes text at) at bytes in
-    let (count, more) = both (ltb (byteAt text (at + 1)) 256) _ each in
-    let (high, last) = both (ltb (byteAt text (at + 3)) 256) _ more in
-    let (low, kind) = both (ltb (byteAt text (at + 5)) 256) _ last in
-    let below : (byteAt text (at + 1) < 256) × (byteAt text (at + 3) < 256) × (byteAt text (at + 5) < 256) × (byteAt text (at + 7) < 256) =
-        (ltb-true _ 256 count, ltb-true _ 256 high, ltb-true _ 256 low, ltb-true _ 256 (both (ltb (byteAt text (at + 7)) 256) true kind .0)) in
-    let sum = rw (head-bytes text at) at (is .sum) in
-    (omega (arith, is .count, below), omega (arith, is .address, below), omega (arith, sum, below))
+-- the count of a head that is formed
+pub count-small : {text : List ℕ} {at : ℕ} {head : Head} → HeadIs text at head → head .formed ≡ true → head .count < 256
+count-small {text} {at} {head} is formed =
+    rw (is .count) (ltb-true (countAt text at) 256 (both (eqb (getD text at 0) colon) (ltb (countAt text at) 256) (sym (is .formed) ∙ formed) .1))

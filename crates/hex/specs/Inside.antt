@@ -9,7 +9,7 @@ use lib.Seq.{sets}
 use Rattle.hex.specs.declared.lines.Head.{Head}
 use Rattle.hex.specs.declared.lines.Data.{Data}
 use Rattle.hex.specs.declared.lines.Read.{Read}
-use Rattle.hex.specs.Signs.{lineFeed, carriageReturn, colon, twoDigits, inDigits, valueOf, byteAt, bytesAt, total}
+use Rattle.hex.specs.Signs.{lineFeed, carriageReturn, colon, twoDigits, inDigits, noDigit, valueOf, byteAt, bytesAt, total}
 use Rattle.hex.specs.Records.{endKind}
 use Rattle.hex.specs.declared.Answer.{Answer}
 use Rattle.hex.specs.Lines.{linesOf}
@@ -78,26 +78,29 @@ faultAt text at cells =
 
 -- what stands before the data of the line that begins at an index
 pub record HeadIs (text : List ℕ) (at : ℕ) (head : Head) : Type 0 where
-  pub formed : head .formed ≡ (eqb (getD text at 0) colon && allBytes (bytesAt text (at + 1) 4))
+  pub formed : head .formed ≡ (eqb (getD text at 0) colon && ltb (countAt text at) 256)
   pub count : head .count ≡ countAt text at
   pub address : head .address ≡ addressAt text at
   pub kind : head .kind ≡ kindAt text at
   pub sum : head .sum ≡ total (bytesAt text (at + 1) 4)
+  pub small : (head .address < 4294967296) × (head .sum < 4294967296)
 
 -- the data read from an index of a text into cells from an address on
 pub record DataIs (text : List ℕ) (at count : ℕ) (before : List ℕ) (address : ℕ) (read : Data) (after : List ℕ) : Type 0 where
-  pub formed : read .formed ≡ allBytes (bytesAt text at count)
+  pub sum : read .sum ≡ total (bytesAt text at count)
   pub small : read .sum < 4294967296
-  pub sum : read .formed ≡ true → read .sum ≡ total (bytesAt text at count)
-  pub twice : read .formed ≡ true → read .twice ≡ someTaken (take count (drop address before))
-  pub stored : read .formed ≡ true → after ≡ sets before address (bytesAt text at count)
+  pub twice : allBytes (bytesAt text at count) ≡ true → read .twice ≡ someTaken (take count (drop address before))
+  pub stored : allBytes (bytesAt text at count) ≡ true → after ≡ sets before address (bytesAt text at count)
 
 -- a line judged from its checksum on, with what stands before it
+abbrev pub sumWith : List ℕ → ℕ → Head → Data → ℕ
+sumWith text at head held = head .sum + held .sum + byteAt text at
+
 pub record Judged (text : List ℕ) (at : ℕ) (head : Head) (held : Data) (size : ℕ) (read : Read) : Type 0 where
   pub code :
     read .code
-    ≡ cond (held .formed && (ltb (byteAt text at) 256 && (ltb 0 (endAt text (at + 2)) && lawful (head .kind) (head .address) (head .count))))
-      (fault (head .sum + held .sum + byteAt text at) (head .kind) (head .address) (head .count) size (held .twice))
+    ≡ cond (ltb (sumWith text at head held) noDigit && (ltb 0 (endAt text (at + 2)) && lawful (head .kind) (head .address) (head .count)))
+      (fault (sumWith text at head held) (head .kind) (head .address) (head .count) size (held .twice))
       1
   pub next : read .code ≡ 0 → read .next ≡ endAt text (at + 2)
   pub closed : read .code ≡ 0 → read .closed ≡ eqb (head .kind) endKind

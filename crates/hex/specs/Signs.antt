@@ -20,7 +20,7 @@ digit d = cond (ltb d 10) (48 + d) (55 + d)
 
 -- what a sign that is no digit counts: more than a byte, and than all bytes of a line together
 abbrev pub noDigit : ℕ
-noDigit = 65536
+noDigit = 131072
 
 abbrev pub within : ℕ → ℕ → ℕ → Bool
 within low high sign = leb low sign && leb sign high

@@ -13,11 +13,14 @@ ghost use Rattle.hex.specs.Inside.{Laid, allBytes, endAt, fault, faultAt
 // A cell that has no byte yet.
 pub(crate) const NOT_YET: u16 = 256;
 
-// What each sign counts as a digit, or 65536.
+// What a sign counts that is no digit.
+const NO_DIGIT: u32 = 131072;
+
+// What each sign counts.
 pub(crate) fn laid() -> [u32; 256]
     ensures { λ r. ⌜ Laid r ⌝ }
 {
-    let mut values = [65536u32; 256];
+    let mut values = [NO_DIGIT; 256];
     values[48] = 0;
     values[49] = 1;
     values[50] = 2;
@@ -80,7 +83,7 @@ fn line_end(text: &[u8], at: usize) -> usize
 }
 
 // What stands before the data of a line: how many bytes of data there are, their address, the type, and the sum of these bytes; and
-// whether there is a colon and these are bytes.
+// whether there is a colon and the count is a byte.
 pub(crate) struct Head {
     pub(crate) formed: bool,
     pub(crate) count: usize,
@@ -89,23 +92,14 @@ pub(crate) struct Head {
     pub(crate) sum: usize,
 }
 
-// Whether there is a colon, and four bytes.
-fn is_head(sign: u8, count: usize, high: usize, low: usize, kind: usize) -> bool
-    ensures { λ r. ⌜ r ≡ (eqb sign colon && allBytes (count ∷ high ∷ low ∷ kind ∷ [])) ⌝ }
+// Whether there is a colon, and a byte.
+fn is_head(sign: u8, count: usize) -> bool
+    ensures { λ r. ⌜ r ≡ (eqb sign colon && ltb count 256) ⌝ }
 {
     if sign != b':' {
         return false;
     }
-    if count >= 256 {
-        return false;
-    }
-    if high >= 256 {
-        return false;
-    }
-    if low >= 256 {
-        return false;
-    }
-    kind < 256
+    count < 256
 }
 
 // Reads what stands before the data of the line that begins at an index.
@@ -117,9 +111,8 @@ fn head_at(values: &[u32; 256], text: &[u8], at: usize) -> Head
     let high = byte_at(values, text, at + 3);
     let low = byte_at(values, text, at + 5);
     let kind = byte_at(values, text, at + 7);
-    let formed = is_head(text[at], count, high, low, kind);
     Head {
-        formed,
+        formed: is_head(text[at], count),
         count,
         address: 256 * high + low,
         kind,
@@ -127,10 +120,9 @@ fn head_at(values: &[u32; 256], text: &[u8], at: usize) -> Head
     }
 }
 
-// What the data of a line come to: whether all of them are bytes; and if so their sum, and whether a cell
-// had its byte before.
+// What the data of a line come to: their sum, and, if all of them are bytes, whether a cell had its byte
+// before.
 pub(crate) struct Data {
-    pub(crate) formed: bool,
     pub(crate) sum: usize,
     pub(crate) twice: bool,
 }
@@ -168,11 +160,7 @@ fn read_data(
         sum += byte;
         done += 1;
     }
-    Data {
-        formed: sum < 65536,
-        sum,
-        twice,
-    }
+    Data { sum, twice }
 }
 
 // Whether a data record has data, and an end record none and the address 0.
@@ -200,7 +188,7 @@ fn fault_of(
     size: usize,
     twice: bool,
 ) -> u32
-    requires { ⌜ (address < 65536) × (count < 256) ⌝ }
+    requires { ⌜ (address < 4294967296) × (count < 256) ⌝ }
     ensures { λ r. ⌜ r ≡ fault sum kind address count size twice ⌝ }
 {
     if sum % 256 != 0 {
@@ -246,14 +234,11 @@ fn judge(
     held: Data,
     size: usize,
 ) -> Read
-    requires { ⌜ Laid (now values) × (at + 3 ≤ length (now text)) × (head .address < 65536) × (head .count < 256) × (head .sum < 65536) × (held .sum < 4294967296) ⌝ }
+    requires { ⌜ Laid (now values) × (at + 3 ≤ length (now text)) × (head .address < 4294967296) × (head .count < 256) × (head .sum < 4294967296) × (held .sum < 4294967296) ⌝ }
     ensures { λ r. ⌜ Judged (now (text .entry)) at head held size r ⌝ }
 {
-    if !held.formed {
-        return malformed();
-    }
-    let check = byte_at(values, text, at);
-    if check >= 256 {
+    let sum = head.sum + held.sum + byte_at(values, text, at);
+    if sum >= NO_DIGIT as usize {
         return malformed();
     }
     let next = line_end(text, at + 2);
@@ -264,7 +249,7 @@ fn judge(
         return malformed();
     }
     let code = fault_of(
-        head.sum + held.sum + check,
+        sum,
         head.kind,
         head.address,
         head.count,

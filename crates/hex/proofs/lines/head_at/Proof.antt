@@ -14,12 +14,14 @@ returns c =
     let high = low .before in
     let count = high .before in
     let start = count .before .before in
+    let bytes = head-bytes (start .args .text .now) (start .args .at) in
     record {
-      formed = rw (head-bytes (start .args .text .now) (start .args .at), ← (count .byte-at .ensures .0), ← (high .byte-at2 .ensures .0), ← (low .byte-at3 .ensures .0), ← (kind .byte-at4 .ensures .0)) (c .is-head .ensures);
+      formed = rw (← (count .byte-at .ensures .0)) (c .is-head .ensures);
       count = count .byte-at .ensures .0;
       address = rw (high .byte-at2 .ensures .0, low .byte-at3 .ensures .0);
       kind = kind .byte-at4 .ensures .0;
-      sum = rw (head-bytes (start .args .text .now) (start .args .at), ← (count .byte-at .ensures .0), ← (high .byte-at2 .ensures .0), ← (low .byte-at3 .ensures .0), ← (kind .byte-at4 .ensures .0)) (omega arith);
+      sum = rw (bytes, ← (count .byte-at .ensures .0), ← (high .byte-at2 .ensures .0), ← (low .byte-at3 .ensures .0), ← (kind .byte-at4 .ensures .0)) (omega arith);
+      small = (omega (arith, high .byte-at2 .ensures .1, low .byte-at3 .ensures .1), omega (arith, count .byte-at .ensures .1, high .byte-at2 .ensures .1, low .byte-at3 .ensures .1, kind .byte-at4 .ensures .1));
     }
 
 pub head-at-spec : {M : Type 1} → statement M

@@ -1,17 +1,16 @@
 -- `read_data` meets its contract. The invariant of its loop: the first `done` bytes were added up, and, where all of them are bytes,
 -- stored, and it is known whether a cell had its byte. The measure is what is left of them.
 use Prim.Native.Nat.{_+_, _*_, _-_, _≤_, _<_}
-use mathlib.Core.Path.{_≡_, refl, sym, ap, _∙_}
+use mathlib.Core.Path.{_≡_, refl, _∙_}
 use mathlib.Core.Bool.{true}
 use native.Mathlib.Omega.{arith}
 use borrow.Author.Needs.{needs}
-use lib.Dec.{ltb}
 use lib.ListN.{length, take, drop, length-set}
 use lib.Seq.{sets}
-use Rattle.hex.specs.Signs.{bytesAt, total}
+use Rattle.hex.specs.Signs.{noDigit, bytesAt, total}
 use Rattle.hex.specs.Faults.{someTaken}
 use Rattle.hex.specs.Inside.{allBytes}
-use Rattle.hex.proofs.Bytes.{all-next, formed-sum, total-next-byte, looked-next, stored-next}
+use Rattle.hex.proofs.Bytes.{all-next, total-next-byte, looked-next, stored-next}
 use Rattle.hex.proofs.lines.read_data.Statement.{statement}
 use Rattle.hex.proofs.lines.read_data.Tie as tie
 
@@ -19,7 +18,7 @@ abbrev Inv-loop : tie.InvT-loop
 Inv-loop values text at count cells₀ address sum₀ twice₀ done₀ cells sum twice done = record {
   inside : done ≤ count;
   sums : sum ≡ total (bytesAt text at done);
-  small : sum ≤ 1114112 * done;
+  small : sum ≤ 17 * noDigit * done;
   looked : allBytes (bytesAt text at done) ≡ true → twice ≡ someTaken (take done (drop address cells₀));
   stored : allBytes (bytesAt text at done) ≡ true → cells ≡ sets cells₀ address (bytesAt text at done);
   same : length cells ≡ length cells₀;
@@ -94,17 +93,12 @@ returns : tie.Need-returns Inv-loop μ-loop
 returns c =
     let inv = c .before .loop .inv in
     let start = c .before .before .before .before in
-    let text = start .args .text .now in
-    let at = start .args .at in
     let all : c .before .loop .done ≡ start .args .count = omega (arith, inv .inside, c .loop-test .left) in
-    let sum = rw all at (inv .sums) in
-    let formed = ap (λ n. ltb n 65536) sum ∙ formed-sum text at (start .args .count) (start .pre .1) in
     record {
-      formed = formed;
+      sum = rw all at (inv .sums);
       small = omega (arith, inv .small, inv .inside, start .pre);
-      sum = λ is. sum;
-      twice = λ is. (rw all at (inv .looked)) (sym formed ∙ is);
-      stored = λ is. (rw all at (inv .stored)) (sym formed ∙ is);
+      twice = rw all at (inv .looked);
+      stored = rw all at (inv .stored);
     }
 
 pub read-data-spec : {M : Type 1} → statement M

@@ -5,7 +5,7 @@ use mathlib.Core.Path.{sym, _∙_}
 use borrow.Author.Needs.{needs}
 use borrow.Author.Tests.{not-true, not-false}
 use Rattle.hex.proofs.Forms.{no-head, too-short}
-use Rattle.hex.proofs.Judging.{malformed-line, line-stored, line-aside, head-small}
+use Rattle.hex.proofs.Judging.{malformed-line, line-stored, line-aside, count-small}
 use Rattle.hex.proofs.lines.read_line.Statement.{statement}
 use Rattle.hex.proofs.lines.read_line.Tie as tie
 
@@ -16,8 +16,10 @@ read c = c .before .before
 abbrev start : tie.After-head-at → tie.Start
 start c = c .before .before .before .before
 
-small : (c : tie.Else2) → (read c .head-at .result .count < 256) × (read c .head-at .result .address < 65536) × (read c .head-at .result .sum < 65536)
-small c = head-small (read c .head-at .ensures) (not-false (read c .head-at .result .formed) (c .if2 .left))
+small : (c : tie.Else2) → (read c .head-at .result .count < 256) × (read c .head-at .result .address < 4294967296) × (read c .head-at .result .sum < 4294967296)
+small c =
+    let is = read c .head-at .ensures in
+    (count-small is (not-false (read c .head-at .result .formed) (c .if2 .left)), is .small .0, is .small .1)
 
 returns : tie.Need-returns
 returns c = malformed-line (c .malformed .ensures) (too-short _ _ _ (omega (arith, c .before .if1 .taken)))
