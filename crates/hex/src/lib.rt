@@ -72,13 +72,17 @@ fn read_with(text: &[u8], image: &mut [u8], cells: &mut [u16]) -> Answer
     answer
 }
 
-// Reads a text into an image.
+// Reads a text into an image. For a small image few cells are laid.
 pub fn read_image(text: &[u8], image: &mut [u8]) -> Answer
     ensures { λ r. ⌜ outcome r (now (image .exit)) ≡ readOf (now (text .entry)) (now (image .entry)) ⌝ }
 {
     let n = image.len();
     if !is_sized(n) {
         return refused(7, 0);
+    }
+    if n <= 512 {
+        let mut cells = [NOT_YET; 512];
+        return read_with(text, image, &mut cells[..n]);
     }
     let mut cells = [NOT_YET; 4096];
     read_with(text, image, &mut cells[..n])

@@ -21,10 +21,6 @@ right c = sym (c .before .is-sized .ensures) ∙ not-false (c .before .is-sized 
 few : (c : tie.Else1) → length (c .before .before .before .before .args .image .now) ≤ 4096
 few c = let n = length (c .before .before .before .before .args .image .now) in leb-true n 4096 (both (leb 41 n) (leb n 4096) (right c) .1)
 
--- so many cells are blank
-blank-there : (c : tie.Else1) → let n = length (c .before .before .before .before .args .image .now) in take n (replicate 4096 notYet) ≡ replicate n notYet
-blank-there c = blank-front _ 4096 (few c)
-
 returns : tie.Need-returns
 unfolding readOf
 returns c =
@@ -32,16 +28,28 @@ returns c =
     rw (c .refused .ensures, sym (tested .is-sized .ensures) ∙ not-true (tested .is-sized .result) (c .before .if1 .taken))
 
 slice-aggregate-read-with : tie.Need-slice-aggregate-read-with
-slice-aggregate-read-with c = sym (ap length (blank-there (c .before .before)) ∙ length-replicate _ notYet)
+slice-aggregate-read-with c = sym (ap length (blank-front _ 512 (c .before .before .if2 .taken)) ∙ length-replicate _ notYet)
 
 read-with-requires : tie.Need-read-with-requires
-read-with-requires c κs = (few (c .before .before), blank-there (c .before .before))
+read-with-requires c κs = let small = c .before .before in (few (small .before), blank-front _ 512 (small .if2 .taken))
 
 returns-2 : tie.Need-returns-2
 unfolding readOf
 returns-2 c =
     let read = c .before .before .before in
-    rw (right (read .before .before .before)) (read .read-with .ensures)
+    rw (right (read .before .before .before .before)) (read .read-with .ensures)
+
+slice-aggregate-read-with-2 : tie.Need-slice-aggregate-read-with-2
+slice-aggregate-read-with-2 c = sym (ap length (blank-front _ 4096 (few (c .before .before .before))) ∙ length-replicate _ notYet)
+
+read-with-requires-2 : tie.Need-read-with-requires-2
+read-with-requires-2 c κs = let large = c .before .before in (few (large .before), blank-front _ 4096 (few (large .before)))
+
+returns-3 : tie.Need-returns-3
+unfolding readOf
+returns-3 c =
+    let read = c .before .before .before in
+    rw (right (read .before .before .before .before)) (read .read-with2 .ensures)
 
 pub read-image-spec : {M : Type 1} → statement M
 read-image-spec =
@@ -50,8 +58,13 @@ read-image-spec =
     (λ c κs. search needs)
     (λ c κs. search needs)
     returns
-    (λ c. few (c .before))
+    (λ c. c .before .if2 .taken)
     slice-aggregate-read-with
     read-with-requires
     (λ c. search needs)
-    returns-2)
+    returns-2
+    (λ c. few (c .before .before))
+    slice-aggregate-read-with-2
+    read-with-requires-2
+    (λ c. search needs)
+    returns-3)
