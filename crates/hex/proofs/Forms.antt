@@ -1,7 +1,7 @@
 -- The line that begins at an index of a text: its parts, and when it is malformed.
 use Prim.Native.Nat.{ℕ, suc, _+_, _*_, _<_, _≤_}
 use mathlib.Core.Path.{_≡_, refl, sym, ap, _∙_}
-use mathlib.Core.Bool.{Bool, true, false, cond, _&&_, true≢false, and-assoc}
+use mathlib.Core.Bool.{Bool, true, false, cond, _&&_, true≢false}
 use mathlib.Core.List.{List, [], _∷_, _++_}
 use native.Mathlib.Decide.{decLe}
 use native.Mathlib.Omega.{arith}
@@ -9,8 +9,8 @@ use borrow.Author.Tests.{ltb-true}
 use lib.Dec.{eqb, ltb}
 use lib.ListN.{length, take, drop, getD, List·getD-eq-default}
 use Rattle.hex.specs.Signs.{colon, noDigit, byteAt, bytesAt, total}
-use Rattle.hex.specs.Faults.{lawful, someTaken}
-use Rattle.hex.specs.Inside.{allBytes, endAt, countAt, addressAt, kindAt, dataAt, allAt, nextAt, formedAt, fault, faultAt}
+use Rattle.hex.specs.Faults.{someTaken}
+use Rattle.hex.specs.Inside.{allBytes, endAt, countAt, addressAt, kindAt, dataAt, allAt, nextAt, formedAt, verdict, faultAt}
 use Rattle.hex.proofs.LineLaws.{choose, both}
 use Rattle.hex.proofs.Digits.{total-append}
 use Rattle.hex.proofs.Bytes.{bytes-split, bytes-next, all-append, formed-sum}
@@ -86,14 +86,12 @@ module _ (text : List ℕ) (at : ℕ) where
     pub too-short : length text < at + 12 + 2 * countAt text at → faultAt text at cells ≡ 1
     too-short short = malformed (λ formed. omega (arith, short, end-inside text (at + 11 + 2 * countAt text at) (formed-parts formed .1)))
 
-    -- else its sum and what stands behind the data decide
+    -- else its sum and its end decide
     pub by-tail : headed ≡ true
         → faultAt text at cells
-        ≡ cond (ltb (total (allAt text at)) noDigit && (ltb 0 (nextAt text at) && lawful (kindAt text at) (addressAt text at) (countAt text at)))
-          (fault (total (allAt text at)) (kindAt text at) (addressAt text at) (countAt text at) (length cells)
+        ≡ cond (ltb (total (allAt text at)) noDigit && ltb 0 (nextAt text at))
+          (verdict (total (allAt text at)) (kindAt text at) (addressAt text at) (countAt text at) (length cells)
           (someTaken (take (countAt text at) (drop (addressAt text at) cells))))
           1
     unfolding faultAt formedAt
-    by-tail there =
-        let begins = both (eqb (getD text at 0) colon) (ltb (countAt text at) 256) there .0 in
-        rw (whole-sum there, begins, and-assoc (allBytes (allAt text at)) (ltb 0 (nextAt text at)) (lawful (kindAt text at) (addressAt text at) (countAt text at))) refl
+    by-tail there = rw (whole-sum there, both (eqb (getD text at 0) colon) (ltb (countAt text at) 256) there .0) refl

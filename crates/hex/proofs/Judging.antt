@@ -4,22 +4,26 @@ use mathlib.Core.Path.{_≡_, refl, sym, ap, _∙_}
 use mathlib.Core.Bool.{Bool, true, false, cond, _&&_, not}
 use mathlib.Core.List.{List}
 use native.Mathlib.Omega.{arith}
-use borrow.Author.Tests.{lt-ltb, ltb-true}
+use borrow.Author.Tests.{lt-ltb, le-ltb, ltb-true}
 use lib.Dec.{eqb, ltb}
 use lib.ListN.{length, take, drop, getD}
 use Rattle.hex.specs.declared.lines.Head.{Head}
 use Rattle.hex.specs.declared.lines.Data.{Data}
 use Rattle.hex.specs.declared.lines.Read.{Read}
 use Rattle.hex.specs.Signs.{colon, noDigit, bytesAt, total}
+use Rattle.hex.specs.Records.{endKind}
 use Rattle.hex.specs.Faults.{lawful, someTaken}
-use Rattle.hex.specs.Inside.{allBytes, endAt, countAt, addressAt, kindAt, allAt, nextAt, fault, faultAt, HeadIs, DataIs, sumWith, Judged, LineIs}
+use Rattle.hex.specs.Inside.{allBytes, endAt, countAt, addressAt, kindAt, allAt, nextAt, verdict, faultAt, HeadIs, DataIs, sumWith, Judged, LineIs}
 use Rattle.hex.proofs.LineLaws.{choose, both}
 use Rattle.hex.proofs.Forms.{headed, all-total, data-all, whole-sum, by-tail}
+
+pub above : {n : ℕ} → (n ≡ 0 → ⊥) → 0 < n
+above {n} other = omega (arith, other)
 
 -- a line that is not in form
 module _ (text : List ℕ) (at : ℕ) (head : Head) (held : Data) (size : ℕ) where
   abbrev behind : Bool
-  behind = ltb (sumWith text at head held) noDigit && (ltb 0 (endAt text (at + 2)) && lawful (head .kind) (head .address) (head .count))
+  behind = ltb (sumWith text at head held) noDigit && ltb 0 (endAt text (at + 2))
 
   pub not-in-form : (read : Read) → read .code ≡ 1 → behind ≡ false → Judged text at head held size read
   not-in-form read is-one not-so = record {
@@ -39,14 +43,16 @@ malformed-line is-one fault-one = record {
 
 -- past the end of the cells it does not matter whether one was taken, and there is a fault
 past-fault : (sum kind address count size : ℕ) (twice other : Bool) → size < address + count
-    → (fault sum kind address count size twice ≡ fault sum kind address count size other) × (fault sum kind address count size twice ≡ 0 → ⊥)
-unfolding fault
-past-fault sum kind address count size twice other past = rw (lt-ltb size (address + count) past) (refl, nonzero (eqb (sum % 256) 0) (ltb 1 kind))
+    → (verdict sum kind address count size twice ≡ verdict sum kind address count size other) × (verdict sum kind address count size twice ≡ 0 → ⊥)
+unfolding verdict
+past-fault sum kind address count size twice other past =
+    rw (lt-ltb size (address + count) past) (refl, nonzero (lawful kind address count) (eqb (sum % 256) 0) (ltb 1 kind))
   where
-    nonzero : (a b : Bool) → let fault : ℕ = cond (not a) 2 (cond b 3 4) in fault ≡ 0 → ⊥
-    nonzero true true none = absurd (omega (arith, none))
-    nonzero true false none = absurd (omega (arith, none))
-    nonzero false b none = absurd (omega (arith, none))
+    nonzero : (a b c : Bool) → let fault : ℕ = cond a (cond (not b) 2 (cond c 3 4)) 1 in fault ≡ 0 → ⊥
+    nonzero true true true none = absurd (omega (arith, none))
+    nonzero true true false none = absurd (omega (arith, none))
+    nonzero true false c none = absurd (omega (arith, none))
+    nonzero false b c none = absurd (omega (arith, none))
 
 nonzero : (b : Bool) (fault : ℕ) → (fault ≡ 0 → ⊥) → cond b fault 1 ≡ 0 → ⊥
 nonzero true fault other none = other none
@@ -57,13 +63,13 @@ module _ {text : List ℕ} (before : List ℕ) {at : ℕ} {head : Head} {held : 
   module _ {cells after : List ℕ} {from : ℕ} (data-is : DataIs text (at + 9) (head .count) cells from held after) where
     -- the judgement in the parts of the line
     abbrev rest : Bool
-    rest = ltb (total (allAt text at)) noDigit && (ltb 0 (nextAt text at) && lawful (kindAt text at) (addressAt text at) (countAt text at))
+    rest = ltb (total (allAt text at)) noDigit && ltb 0 (nextAt text at)
 
     sum-is : sumWith text (at + 9 + 2 * head .count) head held ≡ total (allAt text at)
     sum-is = rw (is .sum, data-is .sum, is .count) (sym (all-total text at))
 
     code-is : read .code
-        ≡ cond rest (fault (total (allAt text at)) (kindAt text at) (addressAt text at) (countAt text at) (length before) (held .twice)) 1
+        ≡ cond rest (verdict (total (allAt text at)) (kindAt text at) (addressAt text at) (countAt text at) (length before) (held .twice)) 1
     code-is =
         let ends : at + 9 + 2 * countAt text at + 2 ≡ at + 11 + 2 * countAt text at = omega arith in
         rw (sum-is, is .count, is .address, is .kind, ends) at (judged .code)
@@ -116,3 +122,8 @@ module _ {text : List ℕ} (before : List ℕ) {at : ℕ} {head : Head} {held : 
 pub count-small : {text : List ℕ} {at : ℕ} {head : Head} → HeadIs text at head → head .formed ≡ true → head .count < 256
 count-small {text} {at} {head} is formed =
     rw (is .count) (ltb-true (countAt text at) 256 (both (eqb (getD text at 0) colon) (ltb (countAt text at) 256) (sym (is .formed) ∙ formed) .1))
+
+-- what an end record is at fault for
+pub end-verdict : (sum size : ℕ) (twice : Bool) → verdict sum endKind 0 0 size twice ≡ cond (not (eqb (sum % 256) 0)) 2 (cond twice 5 0)
+unfolding verdict lawful
+end-verdict sum size twice = rw (le-ltb size (0 + 0) (omega arith)) refl

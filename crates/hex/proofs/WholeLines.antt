@@ -16,7 +16,7 @@ use Rattle.hex.specs.Signs.{lineFeed, carriageReturn, colon, valueOf, by
 use Rattle.hex.specs.Records.{endKind}
 use Rattle.hex.specs.Lines.{Line, line, linesOf}
 use Rattle.hex.specs.Faults.{countOf, addressOf, kindOf, allDigits, colonAndDigits, wholeLength, lawful, inForm, memory, faultOf, after}
-use Rattle.hex.specs.Inside.{allBytes, endAt, countAt, addressAt, kindAt, dataAt, allAt, nextAt, formedAt, fault, faultAt}
+use Rattle.hex.specs.Inside.{allBytes, endAt, countAt, addressAt, kindAt, dataAt, allAt, nextAt, formedAt, verdict, faultAt}
 use Rattle.hex.proofs.LineLaws.{choose, both, line-feed, line-return, ended-line, digits-plain}
 use Rattle.hex.proofs.Values.{digit-of}
 use Rattle.hex.proofs.Forms.{end-inside}
@@ -244,7 +244,7 @@ module _ (text : List ℕ) (at : ℕ) (cells : List ℕ) (first : Line) (more : 
 
   -- what the first line is at fault for
   pub fault-is : faultOf (memory cells false) first ≡ faultAt text at cells
-  unfolding faultOf inForm faultAt fault
+  unfolding faultOf inForm faultAt verdict
   fault-is =
       choose (formedAt text at)
       (λ formed.

@@ -61,19 +61,20 @@ nextAt text at = endAt text (at + 11 + 2 * countAt text at)
 unfoldable pub formedAt : List ℕ → ℕ → Bool
 formedAt text at = eqb (getD text at 0) colon && (allBytes (allAt text at) && ltb 0 (nextAt text at))
 
--- what a line in form is at fault for, from 2 on
-unfoldable pub fault : ℕ → ℕ → ℕ → ℕ → ℕ → Bool → ℕ
-fault sum kind address count size twice =
-    cond (not (eqb (sum % 256) 0)) 2 (cond (ltb endKind kind) 3 (cond (ltb size (address + count)) 4 (cond twice 5 0)))
+-- what a record is at fault for, whose signs are a colon and bytes
+unfoldable pub verdict : ℕ → ℕ → ℕ → ℕ → ℕ → Bool → ℕ
+verdict sum kind address count size twice =
+    cond (lawful kind address count)
+    (cond (not (eqb (sum % 256) 0)) 2 (cond (ltb endKind kind) 3 (cond (ltb size (address + count)) 4 (cond twice 5 0))))
+    1
 
 -- what the line that begins at an index is at fault for
 unfoldable pub faultAt : List ℕ → ℕ → List ℕ → ℕ
 faultAt text at cells =
-    let kind = kindAt text at in
     let address = addressAt text at in
     let count = countAt text at in
-    cond (formedAt text at && lawful kind address count)
-    (fault (total (allAt text at)) kind address count (length cells) (someTaken (take count (drop address cells))))
+    cond (formedAt text at)
+    (verdict (total (allAt text at)) (kindAt text at) address count (length cells) (someTaken (take count (drop address cells))))
     1
 
 -- what stands before the data of the line that begins at an index
@@ -99,8 +100,8 @@ sumWith text at head held = head .sum + held .sum + byteAt text at
 pub record Judged (text : List ℕ) (at : ℕ) (head : Head) (held : Data) (size : ℕ) (read : Read) : Type 0 where
   pub code :
     read .code
-    ≡ cond (ltb (sumWith text at head held) noDigit && (ltb 0 (endAt text (at + 2)) && lawful (head .kind) (head .address) (head .count)))
-      (fault (sumWith text at head held) (head .kind) (head .address) (head .count) size (held .twice))
+    ≡ cond (ltb (sumWith text at head held) noDigit && ltb 0 (endAt text (at + 2)))
+      (verdict (sumWith text at head held) (head .kind) (head .address) (head .count) size (held .twice))
       1
   pub next : read .code ≡ 0 → read .next ≡ endAt text (at + 2)
   pub closed : read .code ≡ 0 → read .closed ≡ eqb (head .kind) endKind

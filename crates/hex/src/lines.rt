@@ -1,14 +1,15 @@
 // A text read line by line into a memory of cells, each of which has its byte or none yet.
 ghost use Prim.Native.Nat.{ℕ, _+_, _*_, _%_, _≤_, _<_};
 ghost use mathlib.Core.Path.{_≡_};
-ghost use mathlib.Core.Bool.{Bool, true, _&&_, _||_};
+ghost use mathlib.Core.Bool.{cond, not, _&&_, _||_};
 ghost use mathlib.Core.List.{[], _∷_};
 ghost use lib.ListN.{length, take, drop, getD};
 ghost use lib.Dec.{eqb, ltb};
 ghost use lib.Seq.{sets};
 ghost use Rattle.hex.specs.Signs.{colon, noDigit, valueOf, byteAt, bytesAt, total};
-ghost use Rattle.hex.specs.Faults.{notYet, lawful, someTaken};
-ghost use Rattle.hex.specs.Inside.{Laid, allBytes, endAt, fault, faultAt, HeadIs, DataIs, Judged, LineIs};
+ghost use Rattle.hex.specs.Records.{dataKind};
+ghost use Rattle.hex.specs.Faults.{notYet};
+ghost use Rattle.hex.specs.Inside.{Laid, allBytes, endAt, verdict, HeadIs, DataIs, Judged, LineIs};
 
 // A cell that has no byte yet.
 pub(crate) const NOT_YET: u16 = 256;
@@ -163,23 +164,37 @@ fn read_data(
     Data { sum, twice }
 }
 
-// Whether a data record has data, and an end record none and the address 0.
-fn is_lawful(kind: usize, address: usize, count: usize) -> bool
-    ensures { λ r. ⌜ r ≡ lawful kind address count ⌝ }
+// What a data record in form is at fault for.
+fn data_fault(sum: usize, address: usize, count: usize, size: usize, twice: bool) -> u32
+    requires { ⌜ (address < 4294967296) × (count < 256) ⌝ }
+    ensures { λ r. ⌜ r ≡ verdict sum dataKind address count size twice ⌝ }
 {
-    if kind == 0 {
-        return count > 0;
+    if count == 0 {
+        return 1;
     }
-    if kind != 1 {
-        return true;
+    if sum % 256 != 0 {
+        return 2;
     }
-    if count != 0 {
-        return false;
+    if address + count > size {
+        return 4;
     }
-    address == 0
+    if twice {
+        return 5;
+    }
+    0
 }
 
-// What a line in form is at fault for, from 2 on; 0 for nothing.
+// What a record of a type that is not taken is at fault for.
+fn other_fault(sum: usize) -> u32
+    ensures { λ r. ⌜ r ≡ cond (not (eqb (sum % 256) 0)) 2 3 ⌝ }
+{
+    if sum % 256 != 0 {
+        return 2;
+    }
+    3
+}
+
+// What any record in form is at fault for: 1 for one that is not lawful, 0 for nothing. Most are data records.
 fn fault_of(
     sum: usize,
     kind: usize,
@@ -189,16 +204,22 @@ fn fault_of(
     twice: bool,
 ) -> u32
     requires { ⌜ (address < 4294967296) × (count < 256) ⌝ }
-    ensures { λ r. ⌜ r ≡ fault sum kind address count size twice ⌝ }
+    ensures { λ r. ⌜ r ≡ verdict sum kind address count size twice ⌝ }
 {
-    if sum % 256 != 0 {
-        return 2;
+    if kind == 0 {
+        return data_fault(sum, address, count, size, twice);
     }
     if kind > 1 {
-        return 3;
+        return other_fault(sum);
     }
-    if address + count > size {
-        return 4;
+    if count != 0 {
+        return 1;
+    }
+    if address != 0 {
+        return 1;
+    }
+    if sum % 256 != 0 {
+        return 2;
     }
     if twice {
         return 5;
@@ -243,9 +264,6 @@ fn judge(
     }
     let next = line_end(text, at + 2);
     if next == 0 {
-        return malformed();
-    }
-    if !is_lawful(head.kind, head.address, head.count) {
         return malformed();
     }
     let code = fault_of(
