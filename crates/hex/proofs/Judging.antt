@@ -29,6 +29,7 @@ module _ (text : List ℕ) (at : ℕ) (head : Head) (held : Data) (size : ℕ) w
   not-in-form read is-one not-so = record {
     code = is-one ∙ sym (rw not-so refl);
     next = λ none. absurd (omega (arith, is-one, none));
+    filled = λ none. absurd (omega (arith, is-one, none));
     closed = λ none. absurd (omega (arith, is-one, none));
   }
 
@@ -37,6 +38,7 @@ pub malformed-line : {text before after : List ℕ} {at : ℕ} {read : Read} →
 malformed-line is-one fault-one = record {
   code = is-one ∙ sym fault-one;
   next = λ none. absurd (omega (arith, is-one, none));
+  filled = λ none. absurd (omega (arith, is-one, none));
   closed = λ none. absurd (omega (arith, is-one, none));
   stored = λ none. absurd (omega (arith, is-one, none));
 }
@@ -98,6 +100,7 @@ module _ {text : List ℕ} (before : List ℕ) {at : ℕ} {head : Head} {held : 
             rw (rw (is .count, is .address) at (data-is .twice (all-data data-is small))) at (code-is data-is)
             ∙ sym (by-tail text at before (headed-is data-is));
         next = next-is data-is;
+        filled = λ none. judged .filled none ∙ is .count;
         closed = λ none. rw (is .kind) at (judged .closed none);
         stored = λ none. rw (is .count, is .address) at (data-is .stored (all-data data-is small));
       })
@@ -114,6 +117,7 @@ module _ {text : List ℕ} (before : List ℕ) {at : ℕ} {head : Head} {held : 
       record {
         code = rw (beyond .0) at (code-is data-is) ∙ sym (by-tail text at before (headed-is data-is));
         next = λ none. absurd (never none);
+        filled = λ none. absurd (never none);
         closed = λ none. absurd (never none);
         stored = λ none. absurd (never none);
       }

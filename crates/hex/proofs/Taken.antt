@@ -1,39 +1,71 @@
 -- Cells that have their bytes: counted, and copied.
-use Prim.Native.Nat.{ℕ, zero, suc, _+_, _/_, _<_, _≤_}
+use Prim.Native.Nat.{ℕ, zero, suc, _+_, _<_, _≤_}
 use mathlib.Core.Path.{_≡_, refl, sym, ap, _∙_}
 use mathlib.Core.Bool.{true, false, cond, _&&_}
 use mathlib.Core.List.{List, [], _∷_, _++_}
-use native.Mathlib.Decide.{decLe}
 use native.Mathlib.Omega.{arith}
 use native.Mathlib.Numerals.{add-one}
-use borrow.Author.Tests.{lt-ltb, le-ltb, eq-eqb, ne-eqb}
+use borrow.Author.Tests.{lt-ltb, ne-eqb}
 use lib.Dec.{eqb, ltb}
-use lib.ListN.{length, take, getD, set, replicate}
-use lib.Seq.{take-suc, take-suc-set}
-use Rattle.hex.specs.Faults.{notYet, allTaken}
+use lib.ListN.{length, take, drop, getD, set, replicate, take-append-drop, length-take, length-drop}
+use lib.Seq.{sets, sets-eq, take-suc, take-suc-set, drop-drop}
+use Rattle.hex.specs.Faults.{notYet, someTaken, allTaken}
+use Rattle.hex.proofs.LineLaws.{choose}
+use Rattle.hex.proofs.RecordLaws.{Bytes}
+use Rattle.hex.proofs.ReadLaws.{neither}
 
--- 0 where every cell has its byte
-unfoldable pub lacking : List ℕ → ℕ
-lacking [] = 0
-lacking (cell ∷ cells) = cell / 256 + lacking cells
+-- how many cells have no byte yet
+unfoldable pub free : List ℕ → ℕ
+free [] = 0
+free (cell ∷ cells) = cond (ltb cell notYet) 0 1 + free cells
 
-pub none-lacking : (cells : List ℕ) → allTaken cells ≡ eqb (lacking cells) 0
-unfolding allTaken lacking
-none-lacking [] = refl
-none-lacking (cell ∷ cells) =
-    elim (decLe 256 cell) [
-      | yes lacks ↦ rw (le-ltb cell 256 lacks, ne-eqb (cell / 256 + lacking cells) 0 (λ none. absurd (omega (arith, none, lacks)))) refl
-      | no has ↦ let none : cell / 256 + lacking cells ≡ lacking cells = omega (arith, has) in rw (lt-ltb cell 256 (omega (arith, has)), none) (none-lacking cells)
-    ]
+free-append : (xs ys : List ℕ) → free (xs ++ ys) ≡ free xs + free ys
+unfolding free
+free-append [] ys = omega arith
+free-append (x ∷ xs) ys = omega (arith, free-append xs ys)
 
-lacking-append : (xs ys : List ℕ) → lacking (xs ++ ys) ≡ lacking xs + lacking ys
-unfolding lacking
-lacking-append [] ys = omega arith
-lacking-append (x ∷ xs) ys = omega (arith, lacking-append xs ys)
+-- all have their bytes where none is free
+pub none-free : (cells : List ℕ) → allTaken cells ≡ eqb (free cells) 0
+unfolding allTaken free
+none-free [] = refl
+none-free (cell ∷ cells) =
+    choose (ltb cell notYet)
+    (λ has. let same : 0 + free cells ≡ free cells = omega arith in rw (has, same) (none-free cells))
+    (λ lacks. rw (lacks, ne-eqb (1 + free cells) 0 (λ none. absurd (omega (arith, none)))) refl)
 
-pub lacking-next : (cells : List ℕ) (k : ℕ) → k < length cells → lacking (take (k + 1) cells) ≡ lacking (take k cells) + getD cells k 0 / 256
-unfolding lacking
-lacking-next cells k more = rw (add-one, take-suc cells k 0 more) (lacking-append (take k cells) _ ∙ omega arith)
+-- at first all are free
+pub blank-free : (n : ℕ) → free (replicate n notYet) ≡ n
+unfolding free
+blank-free zero = refl
+blank-free (suc n) = omega (arith, blank-free n)
+
+bytes-free : (bytes : List ℕ) → Bytes bytes → free bytes ≡ 0
+unfolding free
+bytes-free [] each = refl
+bytes-free (byte ∷ bytes) each = rw (lt-ltb byte notYet (each 0 (omega arith))) (omega (arith, bytes-free bytes (λ k inside. each (suc k) (omega arith))))
+
+none-taken : (cells : List ℕ) → someTaken cells ≡ false → free cells ≡ length cells
+unfolding someTaken free
+none-taken [] none = refl
+none-taken (cell ∷ cells) none =
+    let (first, more) = neither (ltb cell notYet) (someTaken cells) none in
+    rw first (omega (arith, none-taken cells more))
+
+-- bytes that are stored where all was free leave so many fewer
+pub free-sets : (cells : List ℕ) (address : ℕ) (bytes : List ℕ) → Bytes bytes → address + length bytes ≤ length cells
+    → someTaken (take (length bytes) (drop address cells)) ≡ false → free (sets cells address bytes) + length bytes ≡ free cells
+free-sets cells address bytes each inside none =
+    let front = take address cells in
+    let middle = take (length bytes) (drop address cells) in
+    let back = drop (address + length bytes) cells in
+    let whole : cells ≡ front ++ (middle ++ back) =
+        sym (take-append-drop address cells)
+        ∙ ap (λ (l : List ℕ). front ++ l) (sym (take-append-drop (length bytes) (drop address cells)) ∙ ap (λ (l : List ℕ). middle ++ l) (drop-drop (length bytes) address cells)) in
+    let before : free cells ≡ free front + (free middle + free back) =
+        ap free whole ∙ free-append front (middle ++ back) ∙ ap (λ n. free front + n) (free-append middle back) in
+    let after : free (sets cells address bytes) ≡ free front + free bytes + free back =
+        ap free (sets-eq bytes cells address inside) ∙ free-append (front ++ bytes) back ∙ ap (λ n. n + free back) (free-append front bytes) in
+    omega (arith, before, after, bytes-free bytes each, none-taken middle none, length-take (length bytes) (drop address cells), length-drop address cells)
 
 -- one cell more was copied
 pub copied-next : (image cells : List ℕ) (k : ℕ) → k < length image → k < length cells → take k image ≡ take k cells

@@ -6,14 +6,16 @@ use mathlib.Core.List.{List, [], _∷_}
 use native.Mathlib.Omega.{arith}
 use borrow.Author.Tests.{eq-eqb, ne-eqb}
 use lib.ListN.{length, drop, getD}
-use lib.Seq.{drop-nil}
+use lib.Seq.{sets, drop-nil}
 use Rattle.hex.specs.declared.Answer.{Answer}
 use Rattle.hex.specs.declared.lines.Read.{Read}
 use Rattle.hex.specs.Lines.{Line, linesOf}
-use Rattle.hex.specs.Faults.{memory, allTaken, faultOf, after}
+use Rattle.hex.specs.Faults.{Memory, memory, countOf, addressOf, dataOf, allTaken, faultOf, after}
 use Rattle.hex.specs.Doors.{answer, atEnd, readLines}
 use Rattle.hex.specs.Inside.{LineIs, TextIs}
 use Rattle.hex.proofs.LineLaws.{Some, some-line}
+use Rattle.hex.proofs.ReadLaws.{faultless, length-bytes, data-bytes}
+use Rattle.hex.proofs.Taken.{free, free-sets}
 use Rattle.hex.proofs.WholeLines.{one-more, fault-is, goes-on}
 
 -- reading the text comes to reading what is left of it
@@ -72,7 +74,7 @@ module _ {text before cells : List ℕ} {at done : ℕ} where
     unfolding readLines
     line-taken none =
         let (first, more, lines) = line-there text at inside in
-        let (further, rest, leaves) = goes-on text at cells first more lines (sym (is .code) ∙ none) in
+        let (further, rest, count, leaves) = goes-on text at cells first more lines (sym (is .code) ∙ none) in
         let fault : faultOf (memory cells false) first ≡ 0 = fault-is text at cells first more lines ∙ sym (is .code) ∙ none in
         (
           omega (arith, further, is .next none),
@@ -80,6 +82,20 @@ module _ {text before cells : List ℕ} {at done : ℕ} where
             goes = λ image. under .goes image ∙ rw (lines, fault, leaves, rest, is .next none, is .closed none, is .stored none) refl;
           }
         )
+
+    -- so many cells were filled
+    pub line-filled : read .code ≡ 0 → free left + read .filled ≡ free cells
+    unfolding after
+    line-filled none =
+        let (first, more, lines) = line-there text at inside in
+        let (further, rest, count, leaves) = goes-on text at cells first more lines (sym (is .code) ∙ none) in
+        let signs = first .signs in
+        let known = faultless (memory cells false) first (fault-is text at cells first more lines ∙ sym (is .code) ∙ none) in
+        let long = length-bytes signs 9 (countOf signs) in
+        let each = data-bytes signs 9 (countOf signs) (known .digits) (omega arith) (omega (arith, known .whole)) in
+        let stored : left ≡ sets cells (addressOf signs) (dataOf signs) = is .stored none ∙ ap (λ (m : Memory). m .cells) (sym leaves) in
+        rw (stored, is .filled none, sym count ∙ sym long)
+        (free-sets cells (addressOf signs) (dataOf signs) each (rw long (known .inside)) (rw long (known .free)))
 
   -- the text ends without its end record
   pub not-closed : (says : Answer) → Under text before cells at done false → length text ≤ at → says ≡ answer 6 done 0 → TextIs text before says cells

@@ -257,7 +257,7 @@ module _ (text : List ℕ) (at : ℕ) (cells : List ℕ) (first : Line) (more : 
 
   -- without a fault: where the next line begins, and what the first one leaves
   pub goes-on : faultAt text at cells ≡ 0
-      → (at < nextAt text at) × (more ≡ linesOf (drop (nextAt text at) text))
+      → (at < nextAt text at) × (more ≡ linesOf (drop (nextAt text at) text)) × (countOf (first .signs) ≡ countAt text at)
       × (after (memory cells false) first ≡ memory (sets cells (addressAt text at) (dataAt text at)) (eqb (kindAt text at) endKind))
   unfolding after
   goes-on none =
@@ -266,6 +266,7 @@ module _ (text : List ℕ) (at : ℕ) (cells : List ℕ) (first : Line) (more : 
       (
         next-there w .0,
         tail-eq-of-cons-eq (sym lines ∙ next-there w .1),
+        ap (λ (l : Line). countOf (l .signs)) (first-is w) ∙ count-there w,
         rw (first-is w, run-there w 9 (countOf signs) (omega arith), count-there w, part-there w 3 (omega arith), part-there w 5 (omega arith), part-there w 7 (omega arith)) refl
       )
     where

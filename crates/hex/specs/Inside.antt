@@ -104,12 +104,14 @@ pub record Judged (text : List ℕ) (at : ℕ) (head : Head) (held : Data) (size
       (verdict (sumWith text at head held) (head .kind) (head .address) (head .count) size (held .twice))
       1
   pub next : read .code ≡ 0 → read .next ≡ endAt text (at + 2)
+  pub filled : read .code ≡ 0 → read .filled ≡ head .count
   pub closed : read .code ≡ 0 → read .closed ≡ eqb (head .kind) endKind
 
 -- the line that begins at an index was read into cells
 pub record LineIs (text : List ℕ) (at : ℕ) (before : List ℕ) (read : Read) (after : List ℕ) : Type 0 where
   pub code : read .code ≡ faultAt text at before
   pub next : read .code ≡ 0 → read .next ≡ nextAt text at
+  pub filled : read .code ≡ 0 → read .filled ≡ countAt text at
   pub closed : read .code ≡ 0 → read .closed ≡ eqb (kindAt text at) endKind
   pub stored : read .code ≡ 0 → after ≡ sets before (addressAt text at) (dataAt text at)
 

@@ -227,11 +227,12 @@ fn fault_of(
     0
 }
 
-// A line that was read: what it is at fault for; and if for nothing, where the next one begins, and
+// A line that was read: what it is at fault for; and if for nothing, where the next one begins, how many cells it filled, and
 // whether it is the end record.
 pub(crate) struct Read {
     pub(crate) code: u32,
     pub(crate) next: usize,
+    pub(crate) filled: usize,
     pub(crate) closed: bool,
 }
 
@@ -242,6 +243,7 @@ fn malformed() -> Read
     Read {
         code: 1,
         next: 0,
+        filled: 0,
         closed: false,
     }
 }
@@ -277,6 +279,7 @@ fn judge(
     Read {
         code,
         next,
+        filled: head.count,
         closed: head.kind == 1,
     }
 }

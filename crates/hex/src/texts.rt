@@ -3,33 +3,12 @@ use super::lines::laid;
 use super::lines::read_line;
 use super::refused;
 use super::Answer;
-ghost use Prim.Native.Nat.{_/_, _≤_, _<_};
+ghost use Prim.Native.Nat.{_≤_};
 ghost use mathlib.Core.Path.{_≡_};
 ghost use mathlib.Core.Bool.{true};
-ghost use lib.ListN.{length};
-ghost use Rattle.hex.specs.Faults.{allTaken};
+ghost use lib.ListN.{length, replicate};
+ghost use Rattle.hex.specs.Faults.{notYet, allTaken};
 ghost use Rattle.hex.specs.Inside.{TextIs};
-
-// 0 where a cell has its byte.
-fn lacks(cell: u16) -> u32
-    ensures { λ r. ⌜ (r ≡ cell / 256) × (r < 256) ⌝ }
-{
-    (cell / 256) as u32
-}
-
-// Whether every cell has its byte.
-fn all_taken(cells: &[u16]) -> bool
-    requires { ⌜ length (now cells) ≤ 4096 ⌝ }
-    ensures { λ r. ⌜ r ≡ allTaken (now (cells .entry)) ⌝ }
-{
-    let mut missing = 0;
-    let mut k = 0;
-    while k < cells.len() {
-        missing += lacks(cells[k]);
-        k += 1;
-    }
-    missing == 0
-}
 
 // Copies cells that all have their bytes.
 pub(crate) fn copy(cells: &[u16], image: &mut [u8])
@@ -43,14 +22,16 @@ pub(crate) fn copy(cells: &[u16], image: &mut [u8])
     }
 }
 
-// Reads a text line by line into cells.
+// Reads a text line by line into cells, none of which has its byte yet. No cell is filled twice, so all have their bytes where as many
+// were filled as there are.
 pub(crate) fn read_lines(text: &[u8], cells: &mut [u16]) -> Answer
-    requires { ⌜ length (now cells) ≤ 4096 ⌝ }
+    requires { ⌜ (length (now cells) ≤ 4096) × (now cells ≡ replicate (length (now cells)) notYet) ⌝ }
     ensures { λ r. ⌜ TextIs (now (text .entry)) (now (cells .entry)) r (now (cells .exit)) ⌝ }
 {
     let values = laid();
     let mut at = 0;
     let mut done = 0;
+    let mut filled = 0;
     let mut closed = false;
     while at < text.len() {
         if closed {
@@ -61,13 +42,14 @@ pub(crate) fn read_lines(text: &[u8], cells: &mut [u16]) -> Answer
             return refused(read.code, done + 1);
         }
         at = read.next;
+        filled += read.filled;
         closed = read.closed;
         done += 1;
     }
     if !closed {
         return refused(6, done);
     }
-    if !all_taken(cells) {
+    if filled != cells.len() {
         return refused(6, done);
     }
     refused(0, 0)

@@ -1,9 +1,9 @@
 -- `read_with` meets its contract.
-use mathlib.Core.Path.{_≡_, ap, _∙_}
+use mathlib.Core.Path.{_≡_, sym, ap, _∙_}
 use native.Mathlib.Omega.{arith}
 use borrow.Author.Needs.{needs}
 use borrow.Author.Tests.{eq-eqb, ne-eqb}
-use lib.ListN.{length, length-replicate}
+use lib.ListN.{length, replicate, length-replicate}
 use Rattle.hex.specs.Faults.{notYet}
 use Rattle.hex.proofs.read_with.Statement.{statement}
 use Rattle.hex.proofs.read_with.Tie as tie
@@ -13,7 +13,9 @@ as-many : (c : tie.Start) → length (c .args .cells .now) ≡ length (c .args .
 as-many c = ap length (c .pre .1) ∙ length-replicate _ notYet
 
 read-lines-requires : tie.Need-read-lines-requires
-read-lines-requires c κs = let start = c .before .before .before .before in omega (arith, as-many start, start .pre .0)
+read-lines-requires c κs =
+    let start = c .before .before .before .before in
+    (omega (arith, as-many start, start .pre .0), start .pre .1 ∙ ap (λ n. replicate n notYet) (sym (as-many start)))
 
 returns : tie.Need-returns
 returns c =

@@ -29,6 +29,7 @@ returns-3 c =
           rw (← (sum .byte-at .ensures .0), lt-ltb _ noDigit (end .before .if1 .left), ← (end .line-end .ensures), lt-ltb 0 _ (above (faulty .before .if2 .left)))
           (faulty .fault-of .ensures);
       next = λ none. end .line-end .ensures;
+      filled = λ none. refl;
       closed = λ none. refl;
     }
 

@@ -1,28 +1,32 @@
 -- `read_lines` meets its contract. The invariant of its loop: reading the text comes to reading what is left of it. The measure is how
 -- much that is.
-use Prim.Native.Nat.{_-_, _≤_}
+use Prim.Native.Nat.{_+_, _-_, _≤_}
 use mathlib.Core.Path.{_≡_, refl, sym, ap, _∙_}
 use native.Mathlib.Omega.{arith}
 use borrow.Author.Needs.{needs}
-use borrow.Author.Tests.{not-true, not-false}
+use borrow.Author.Tests.{not-true, not-false, eq-eqb, ne-eqb}
 use lib.ListN.{length}
 use Rattle.hex.specs.Inside.{Laid}
-use Rattle.hex.proofs.TextLaws.{Under, begin, tested, after-end, line-refused, line-taken, not-closed, not-all, well}
+use Rattle.hex.proofs.Taken.{free, none-free, blank-free}
+use Rattle.hex.proofs.TextLaws.{Under, begin, tested, after-end, line-refused, line-taken, line-filled, not-closed, not-all, well}
 use Rattle.hex.proofs.texts.read_lines.Statement.{statement}
 use Rattle.hex.proofs.texts.read_lines.Tie as tie
 
 abbrev Inv-loop : tie.InvT-loop
-Inv-loop text cells₀ values at₀ done₀ closed₀ cells at done closed = record {
+Inv-loop text cells₀ values at₀ done₀ filled₀ closed₀ cells at done filled closed = record {
   behind : done ≤ at;
+  counted : filled + free cells ≡ length cells₀;
   under : Under text cells₀ cells at done closed;
   same : length cells ≡ length cells₀;
 }
 
 abbrev μ-loop : tie.MeasureT-loop
-μ-loop text cells₀ values at₀ done₀ closed₀ cells at done closed = length text - at
+μ-loop text cells₀ values at₀ done₀ filled₀ closed₀ cells at done filled closed = length text - at
 
 loop-holds : tie.Need-loop-holds Inv-loop μ-loop
-loop-holds c = record { behind = omega arith; under = begin _ _; same = refl }
+loop-holds c =
+    let start = c .before .before .before in
+    record { behind = omega arith; counted = omega (arith, ap free (start .pre .1) ∙ blank-free (length (start .args .cells .now))); under = begin _ _; same = refl }
 
 add-refused : tie.Need-add-refused Inv-loop μ-loop
 add-refused c = omega (arith, c .before .before .loop .inv .behind, c .before .loop-test .taken)
@@ -62,25 +66,43 @@ returns-2 c =
     let turn = more .before in
     line-refused (tested (more .if1 .left) (turn .before .loop .inv .under)) (turn .loop-test .taken) (line .read-line .ensures) _ (c .before .if2 .taken) (c .refused2 .ensures)
 
+-- what is left free after a line without a fault
+left-free : (c : tie.Else2 Inv-loop μ-loop) → let line = c .before .before .before .before in
+    free (line .read-line .last .1 .1 .1 .0) + line .read-line .result .filled ≡ free (turn line .before .loop .cells)
+left-free c =
+    let line = c .before .before .before .before in
+    let turn = turn line in
+    line-filled (tested (line .before .before .before .if1 .left) (turn .before .loop .inv .under)) (turn .loop-test .taken) (line .read-line .ensures) (c .if2 .left)
+
+add-filled : tie.Need-add-filled Inv-loop μ-loop
+add-filled c =
+    let turn = turn (c .before .before .before .before .before) in
+    omega (arith, left-free (c .before), turn .before .loop .inv .counted, turn .before .before .before .before .before .pre .0)
+
 add-done : tie.Need-add-done Inv-loop μ-loop
 add-done c =
-    let turn = turn (c .before .before .before .before) in
+    let turn = turn (c .before .before .before .before .before) in
     omega (arith, turn .before .loop .inv .behind, turn .loop-test .taken)
 
 loop-less : tie.Need-loop-less Inv-loop μ-loop
 loop-less c =
-    let line = c .before .before .before .before in
+    let line = c .before .before .before .before .before in
     let turn = turn line in
-    let next = line-taken (tested (line .before .before .before .if1 .left) (turn .before .loop .inv .under)) (turn .loop-test .taken) (line .read-line .ensures) (c .if2 .left) .0 in
+    let next = line-taken (tested (line .before .before .before .if1 .left) (turn .before .loop .inv .under)) (turn .loop-test .taken) (line .read-line .ensures) (c .before .if2 .left) .0 in
     omega (arith, turn .loop-test .taken, next)
 
 loop-again : tie.Need-loop-again Inv-loop μ-loop
 loop-again c =
-    let line = c .before .before .before .before in
+    let line = c .before .before .before .before .before in
     let turn = turn line in
     let inv = turn .before .loop .inv in
-    let next = line-taken (tested (line .before .before .before .if1 .left) (inv .under)) (turn .loop-test .taken) (line .read-line .ensures) (c .if2 .left) in
-    record { behind = omega (arith, next .0, inv .behind); under = next .1; same = line .read-line .kept .1 .1 .1 .0 ∙ inv .same }
+    let next = line-taken (tested (line .before .before .before .if1 .left) (inv .under)) (turn .loop-test .taken) (line .read-line .ensures) (c .before .if2 .left) in
+    record {
+      behind = omega (arith, next .0, inv .behind);
+      counted = omega (arith, left-free (c .before), inv .counted);
+      under = next .1;
+      same = line .read-line .kept .1 .1 .1 .0 ∙ inv .same;
+    }
 
 same-length-3 : tie.Need-same-length-3 Inv-loop μ-loop
 same-length-3 c = c .before .before .before .loop .inv .same
@@ -91,34 +113,31 @@ returns-3 c =
     let loop = end .before .loop in
     not-closed _ (tested (not-true (loop .closed) (c .before .if3 .taken)) (loop .inv .under)) (end .loop-test .left) (c .refused3 .ensures)
 
-all-taken-requires : tie.Need-all-taken-requires Inv-loop μ-loop
-all-taken-requires c κs =
-    let loop = c .before .before .before .loop in
-    omega (arith, loop .inv .same, c .before .before .before .before .before .before .before .pre)
+-- the cells that are left free at the end
+free-there : (c : tie.Else3 Inv-loop μ-loop) → let loop = c .before .before .loop in loop .filled + free (loop .cells) ≡ length (loop .cells)
+free-there c = let loop = c .before .before .loop in loop .inv .counted ∙ sym (loop .inv .same)
 
 same-length-4 : tie.Need-same-length-4 Inv-loop μ-loop
-same-length-4 c = c .before .before .before .before .before .before .loop .inv .same
+same-length-4 c = c .before .before .before .before .loop .inv .same
 
 returns-4 : tie.Need-returns-4 Inv-loop μ-loop
 returns-4 c =
-    let taken = c .before .before in
-    let closed = taken .before .before in
-    let end = closed .before in
-    let loop = end .before .loop in
-    not-all _ (tested (not-false (loop .closed) (closed .if3 .left)) (loop .inv .under)) (end .loop-test .left)
-    (sym (taken .all-taken .ensures) ∙ not-true (taken .all-taken .result) (c .before .if4 .taken)) (c .refused4 .ensures)
+    let closed = c .before .before in
+    let loop = closed .before .before .loop in
+    let some : free (loop .cells) ≡ 0 → ⊥ = λ none. c .before .if4 .taken (omega (arith, free-there closed, none)) in
+    not-all _ (tested (not-false (loop .closed) (closed .if3 .left)) (loop .inv .under)) (closed .before .loop-test .left)
+    (none-free (loop .cells) ∙ ne-eqb (free (loop .cells)) 0 some) (c .refused4 .ensures)
 
 same-length-5 : tie.Need-same-length-5 Inv-loop μ-loop
-same-length-5 c = c .before .before .before .before .before .before .loop .inv .same
+same-length-5 c = c .before .before .before .before .loop .inv .same
 
 returns-5 : tie.Need-returns-5 Inv-loop μ-loop
 returns-5 c =
-    let taken = c .before .before in
-    let closed = taken .before .before in
-    let end = closed .before in
-    let loop = end .before .loop in
-    well _ (tested (not-false (loop .closed) (closed .if3 .left)) (loop .inv .under)) (end .loop-test .left)
-    (sym (taken .all-taken .ensures) ∙ not-false (taken .all-taken .result) (c .before .if4 .left)) (c .refused5 .ensures)
+    let closed = c .before .before in
+    let loop = closed .before .before .loop in
+    let none : free (loop .cells) ≡ 0 = omega (arith, free-there closed, c .before .if4 .left) in
+    well _ (tested (not-false (loop .closed) (closed .if3 .left)) (loop .inv .under)) (closed .before .loop-test .left)
+    (none-free (loop .cells) ∙ eq-eqb (free (loop .cells)) 0 none) (c .refused5 .ensures)
 
 pub read-lines-spec : {M : Type 1} → statement M
 read-lines-spec =
@@ -137,13 +156,13 @@ read-lines-spec =
     (λ c κs. search needs)
     same-length-2
     returns-2
+    add-filled
     add-done
     loop-less
     loop-again
     (λ c κs. search needs)
     same-length-3
     returns-3
-    all-taken-requires
     (λ c κs. search needs)
     same-length-4
     returns-4
