@@ -1,5 +1,6 @@
-/* Prints the table of instructions per byte of Intel HEX text, the archive beside fasthex.c, on the same images and texts in one run.
-   What they answer and fill is compared on the way. Ends with 1 where the archive takes more than fasthex.c in a row that is held. */
+/* Prints the table of instructions per byte of Intel HEX text, the archive beside fasthex.c, on the same images and texts in one
+   run. What they answer and fill is compared on the way. Ends with 1 where the archive takes more than fasthex.c in a row that is
+   held. */
 
 #include <inttypes.h>
 #include <stdbool.h>
@@ -13,8 +14,8 @@
 typedef enum { writing, reading, refusing } task;
 enum { shown, held };
 
-/* The rows, and which of them are held. That a byte of a long text costs no more than one of a short text is seen from one N to the
-   next. Each instruction is a signal, so the longest text, of 4096 records of 1, is left out. */
+/* The rows, and which of them are held. That a byte of a long text costs no more than one of a short text is seen from one N to
+   the next. Each instruction is a signal, so the longest text, of 4096 records of 1, is left out. */
 static const struct {
     task task;
     size_t n, each; /* bytes of the image, and of a record */
@@ -90,7 +91,7 @@ static void expect(bool holds, lyre_hex answer)
     exit(1);
 }
 
-/* Calls both doors with all that there is room for, and gives the answer of both. */
+/* Calls both doors, each with what it is to fill, and gives the answer, which has to be that of both. */
 static figures call_both(hex_door *archive, hex_door *c, const uint8_t *from, size_t length, size_t room, lyre_hex *answer)
 {
     lyre_hex other;

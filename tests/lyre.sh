@@ -42,7 +42,7 @@ ends 2 ./lyre
 mv "$work/said" "$work/help"
 ends 0 ./lyre help
 diff "$work/help" "$work/printed" || fail './lyre alone (<) does not say what ./lyre help prints (>)'
-sed -n '/^case/,/^esac/s/^\([a-z]*\)).*/\1/p' lyre >"$work/commands"
+sed -n '/^case/,/^esac/s/^\([a-z-]*\)).*/\1/p' lyre >"$work/commands"
 [ -s "$work/commands" ] || fail 'no command was found'
 while read -r command; do
     grep -Eq "^  $command( |\$)" "$work/help" || fail "help does not name $command"
@@ -57,10 +57,25 @@ refused 2 'usage: ./lyre look [FILE]' look one two
 refused 1 "$work/missing: " look "$work/missing"
 refused 1 "$work: " look "$work"
 refused 1 'standard input: is closed' look <&-
+refused 2 'usage: ./lyre to-hex [FILE]' to-hex one two
+refused 1 'standard input: is closed' to-hex <&-
+refused 1 'lyre to-hex: the image is not 41 to 4096 bytes long' to-hex </dev/null
+refused 2 'usage: ./lyre from-hex N [FILE]' from-hex
+refused 2 'usage: ./lyre from-hex N [FILE]' from-hex 12x
+refused 1 'standard input: is closed' from-hex 129 <&-
+refused 1 'lyre from-hex: line 0: the text ends' from-hex 129 </dev/null
 same
 same examples/setting-a.bin
 same "$work/missing"
 same one two
+
+# What a command prints is lost where the disk is full or standard output is closed, and it must say so.
+ends 1 sh -c './lyre to-hex examples/setting-a.bin >&-'
+grep -qx 'lyre to-hex: standard output: is closed' "$work/said" || fail 'to-hex does not say that standard output is closed'
+ends 1 sh -c './lyre to-hex examples/setting-a.bin >/dev/full'
+grep -qx 'lyre to-hex: the text cannot be written' "$work/said" || fail 'to-hex does not say that its text is lost'
+ends 1 sh -c './lyre from-hex 129 examples/hex/objcopy.hex >/dev/full'
+grep -qx 'lyre from-hex: the image cannot be written' "$work/said" || fail 'from-hex does not say that its image is lost'
 
 # When rt is called, in a house and with a kit that are made up: there rt leaves a program, as long as the kit has it, and ends as the
 # file `ends` says.
