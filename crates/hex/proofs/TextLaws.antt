@@ -4,7 +4,8 @@ use mathlib.Core.Path.{_≡_, refl, sym, ap, _∙_}
 use mathlib.Core.Bool.{Bool, true, false, cond}
 use mathlib.Core.List.{List, [], _∷_}
 use native.Mathlib.Omega.{arith}
-use borrow.Author.Tests.{eq-eqb, ne-eqb}
+use borrow.Author.Tests.{eq-eqb, ne-eqb, eqb-true, eqb-false, ltb-true, ltb-false}
+use lib.Dec.{eqb, ltb}
 use lib.ListN.{length, drop, getD}
 use lib.Seq.{sets, drop-nil}
 use Rattle.hex.specs.declared.Answer.{Answer}
@@ -13,9 +14,9 @@ use Rattle.hex.specs.Lines.{Line, linesOf}
 use Rattle.hex.specs.Faults.{Memory, memory, countOf, addressOf, dataOf, allTaken, faultOf, after}
 use Rattle.hex.specs.Doors.{answer, atEnd, readLines}
 use Rattle.hex.specs.Inside.{LineIs, TextIs}
-use Rattle.hex.proofs.LineLaws.{Some, some-line}
+use Rattle.hex.proofs.LineLaws.{choose, Some, some-line}
 use Rattle.hex.proofs.ReadLaws.{faultless, length-bytes, data-bytes}
-use Rattle.hex.proofs.Taken.{free, free-sets}
+use Rattle.hex.proofs.Taken.{free, none-free, free-sets}
 use Rattle.hex.proofs.WholeLines.{one-more, fault-is, goes-on}
 
 -- reading the text comes to reading what is left of it
@@ -25,7 +26,8 @@ pub record Under (text before cells : List ℕ) (at done : ℕ) (closed : Bool) 
 pub begin : (text before : List ℕ) → Under text before before 0 0 false
 begin text before = record { goes = λ image. refl }
 
-pub tested : {text before cells : List ℕ} {at done : ℕ} {closed is : Bool} → closed ≡ is → Under text before cells at done closed → Under text before cells at done is
+pub tested : {text before cells : List ℕ} {at done : ℕ} {closed is : Bool} → closed ≡ is → Under text before cells at done closed
+    → Under text before cells at done is
 tested same under = rw same at under
 
 -- from an index inside the text on there is a line
@@ -54,13 +56,6 @@ over (sign ∷ text) zero past = absurd (omega arith)
 over (sign ∷ text) (suc at) past = over text at (omega arith)
 
 module _ {text before cells : List ℕ} {at done : ℕ} where
-  -- a line after the end record
-  pub after-end : (says : Answer) → Under text before cells at done true → at < length text → says ≡ answer 1 (done + 1) 0 → TextIs text before says cells
-  unfolding faultOf
-  after-end says under inside same =
-      let (first, more, lines) = line-there text at inside in
-      refusal says same (λ none. absurd (omega (arith, none))) (λ image. under .goes image ∙ rw lines (fault-first image cells done true first more refl (λ none. absurd (omega (arith, none)))))
-
   module _ {read : Read} {left : List ℕ} (under : Under text before cells at done false) (inside : at < length text) (is : LineIs text at cells read left) where
     -- a line at fault
     pub line-refused : (says : Answer) → (read .code ≡ 0 → ⊥) → says ≡ answer (read .code) (done + 1) 0 → TextIs text before says left
@@ -102,15 +97,23 @@ module _ {text before cells : List ℕ} {at done : ℕ} where
   unfolding readLines atEnd
   not-closed says under past same = refusal says same (λ none. absurd (omega (arith, none))) (λ image. under .goes image ∙ rw (over text at past) refl)
 
-  -- or without a byte for some address
-  pub not-all : (says : Answer) → Under text before cells at done true → length text ≤ at → allTaken cells ≡ false → says ≡ answer 6 done 0
+  -- or well, behind its end record: then a line more is malformed, and all cells have to be filled
+  pub closed-well : (says : Answer) (filled : ℕ) → Under text before cells at done true → filled + free cells ≡ length cells
+      → says ≡ cond (ltb at (length text)) (answer 1 (done + 1) 0) (cond (eqb filled (length cells)) (answer 0 0 0) (answer 6 done 0))
       → TextIs text before says cells
-  unfolding readLines atEnd
-  not-all says under past some same =
-      refusal says same (λ none. absurd (omega (arith, none))) (λ image. under .goes image ∙ rw (over text at past, some) refl)
-
-  -- or well
-  pub well : (says : Answer) → Under text before cells at done true → length text ≤ at → allTaken cells ≡ true → says ≡ answer 0 0 0 → TextIs text before says cells
-  unfolding readLines atEnd
-  well says under past all same =
-      record { reads = λ image. rw same (sym (under .goes image ∙ rw (over text at past, all) refl)); taken = λ none. all }
+  unfolding faultOf readLines atEnd
+  closed-well says filled under counted same =
+      choose (ltb at (length text))
+      (λ more.
+        let (first, others, lines) = line-there text at (ltb-true at (length text) more) in
+        refusal says (rw more at same) (λ none. absurd (omega (arith, none)))
+        (λ image. under .goes image ∙ rw lines (fault-first image cells done true first others refl (λ none. absurd (omega (arith, none))))))
+      (λ none.
+        let past = over text at (ltb-false at (length text) none) in
+        choose (eqb filled (length cells))
+        (λ all.
+          let taken : allTaken cells ≡ true = none-free cells ∙ eq-eqb (free cells) 0 (omega (arith, counted, eqb-true filled (length cells) all)) in
+          record { reads = λ image. rw (rw (none, all) at same) (sym (under .goes image ∙ rw (past, taken) refl)); taken = λ good. taken })
+        (λ some.
+          let lacking : allTaken cells ≡ false = none-free cells ∙ ne-eqb (free cells) 0 (λ zero. eqb-false filled (length cells) some (omega (arith, counted, zero))) in
+          refusal says (rw (none, some) at same) (λ zero. absurd (omega (arith, zero))) (λ image. under .goes image ∙ rw (past, lacking) refl)))

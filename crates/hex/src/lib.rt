@@ -80,8 +80,8 @@ pub fn read_image(text: &[u8], image: &mut [u8]) -> Answer
     if !is_sized(n) {
         return refused(7, 0);
     }
-    if n <= 512 {
-        let mut cells = [NOT_YET; 512];
+    if n <= 256 {
+        let mut cells = [NOT_YET; 256];
         return read_with(text, image, &mut cells[..n]);
     }
     let mut cells = [NOT_YET; 4096];

@@ -3,11 +3,12 @@ use super::lines::laid;
 use super::lines::read_line;
 use super::refused;
 use super::Answer;
-ghost use Prim.Native.Nat.{_≤_};
+ghost use Prim.Native.Nat.{_+_, _≤_, _<_};
 ghost use mathlib.Core.Path.{_≡_};
-ghost use mathlib.Core.Bool.{true};
+ghost use mathlib.Core.Bool.{true, cond};
 ghost use lib.ListN.{length, replicate};
 ghost use Rattle.hex.specs.Faults.{notYet, allTaken};
+ghost use Rattle.hex.specs.Doors.{answer};
 ghost use Rattle.hex.specs.Inside.{TextIs};
 
 // Copies cells that all have their bytes.
@@ -22,6 +23,20 @@ pub(crate) fn copy(cells: &[u16], image: &mut [u8])
     }
 }
 
+// What is answered behind the end record, where so many lines were read: one more is malformed, and all cells have to be filled.
+fn closing(more: bool, done: usize, all: bool) -> Answer
+    requires { ⌜ done < 18446744073709551615 ⌝ }
+    ensures { λ r. ⌜ r ≡ cond more (answer 1 (done + 1) 0) (cond all (answer 0 0 0) (answer 6 done 0)) ⌝ }
+{
+    if more {
+        return refused(1, done + 1);
+    }
+    if all {
+        return refused(0, 0);
+    }
+    refused(6, done)
+}
+
 // Reads a text line by line into cells, none of which has its byte yet. No cell is filled twice, so all have their bytes where as many
 // were filled as there are.
 pub(crate) fn read_lines(text: &[u8], cells: &mut [u16]) -> Answer
@@ -32,25 +47,17 @@ pub(crate) fn read_lines(text: &[u8], cells: &mut [u16]) -> Answer
     let mut at = 0;
     let mut done = 0;
     let mut filled = 0;
-    let mut closed = false;
     while at < text.len() {
-        if closed {
-            return refused(1, done + 1);
-        }
         let read = read_line(&values, text, at, cells);
         if read.code != 0 {
             return refused(read.code, done + 1);
         }
         at = read.next;
         filled += read.filled;
-        closed = read.closed;
         done += 1;
+        if read.closed {
+            return closing(at < text.len(), done, filled == cells.len());
+        }
     }
-    if !closed {
-        return refused(6, done);
-    }
-    if filled != cells.len() {
-        return refused(6, done);
-    }
-    refused(0, 0)
+    refused(6, done)
 }

@@ -28,10 +28,10 @@ returns c =
     rw (c .refused .ensures, sym (tested .is-sized .ensures) ∙ not-true (tested .is-sized .result) (c .before .if1 .taken))
 
 slice-aggregate-read-with : tie.Need-slice-aggregate-read-with
-slice-aggregate-read-with c = sym (ap length (blank-front _ 512 (c .before .before .if2 .taken)) ∙ length-replicate _ notYet)
+slice-aggregate-read-with c = sym (ap length (blank-front _ 256 (c .before .before .if2 .taken)) ∙ length-replicate _ notYet)
 
 read-with-requires : tie.Need-read-with-requires
-read-with-requires c κs = let small = c .before .before in (few (small .before), blank-front _ 512 (small .if2 .taken))
+read-with-requires c κs = let small = c .before .before in (few (small .before), blank-front _ 256 (small .if2 .taken))
 
 returns-2 : tie.Need-returns-2
 unfolding readOf
