@@ -290,8 +290,8 @@ pub(crate) fn read_line(values: &[u32; 256], text: &[u8], at: usize, cells: &mut
     requires { ⌜ Laid (now values) × (at < length (now text)) × (length (now cells) ≤ 4096) ⌝ }
     ensures { λ r. ⌜ LineIs (now (text .entry)) at (now (cells .entry)) r (now (cells .exit)) ⌝ }
 {
-    let left = text.len() - at;
-    if left < 12 {
+    let least = at + 12;
+    if text.len() < least {
         return malformed();
     }
     let head = head_at(values, text, at);
@@ -300,7 +300,7 @@ pub(crate) fn read_line(values: &[u32; 256], text: &[u8], at: usize, cells: &mut
     }
     let count = head.count;
     let address = head.address;
-    if left < 12 + 2 * count {
+    if text.len() < least + 2 * count {
         return malformed();
     }
     let start = at + 9;
