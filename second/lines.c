@@ -1,6 +1,7 @@
 /* The lines that crates/cases prints, worked out by the second maker: chips of document 01's bench list, chips that are easy to
    get wrong, and those of later requests. The map is at 1 and the area starts at 25 where a case does not say otherwise. */
 
+#include "hex.h"
 #include "second.h"
 
 #include <inttypes.h>
@@ -213,11 +214,126 @@ static void mended(void)
     say_mended("P1 all C0, read");
 }
 
+/* Document 02, P2. */
+static uint8_t text[11276];
+
+static void print_hex(const char *name, second_hex answer)
+{
+    printf("%s: code=%" PRIu32 " line=%" PRIu64 " length=%" PRIu64, name, answer.code, answer.line, answer.length);
+}
+
+static void say_written(const char *name, const uint8_t *cells, size_t count, size_t room)
+{
+    print_hex(name, second_hex_write(cells, count, text, room));
+    printf("\n");
+}
+
+static void writing(void)
+{
+    static const uint8_t zeros[4097];
+    near_the_end();
+    say_written("P2 setting A, room 377, write", image, 129, 377);
+    say_written("P2 setting A, room 378, write", image, 129, 378);
+    say_written("P2 N 40, write", zeros, 40, sizeof text);
+    say_written("P2 N 4096, write", zeros, 4096, sizeof text);
+    say_written("P2 N 4097, write", zeros, 4097, sizeof text);
+}
+
+/* Tells whether the image is now the one that was written, and whether it is as it was before the text was read. */
+static void say_taken(const char *name, second_hex answer, const uint8_t *now, const uint8_t *written, const uint8_t *before,
+                      size_t count)
+{
+    print_hex(name, answer);
+    printf(" written=%d kept=%d\n", memcmp(now, written, count) == 0, memcmp(now, before, count) == 0);
+}
+
+static void longest(void)
+{
+    static uint8_t written[4096], before[4096], now[4096];
+    memset(before, 0xFF, sizeof before);
+    memset(now, 0xFF, sizeof now);
+    second_hex_write(written, sizeof written, text, sizeof text);
+    say_taken("P2 N 4096, read", second_hex_read(text, sizeof text, now, sizeof now), now, written, before, sizeof now);
+}
+
+/* The text of setting A, so that it can be damaged. Its last data record is that of cell 128 alone. */
+static uint8_t *const last_data = text + 352, *const end_record = text + 366, *const text_end = text + 378;
+
+static void written_a(void)
+{
+    near_the_end();
+    second_hex_write(image, 129, text, sizeof text);
+}
+
+/* Reads the text up to `stop` into a blank chip. */
+static void say_text(const char *name, const uint8_t *stop, size_t cells)
+{
+    uint8_t written[sizeof image], before[sizeof image];
+    near_the_end();
+    memcpy(written, image, sizeof image);
+    blank(cells, 128);
+    memcpy(before, image, sizeof image);
+    say_taken(name, second_hex_read(text, (size_t)(stop - text), image, cells), image, written, before, sizeof image);
+}
+
+static void good_texts(void)
+{
+    written_a();
+    say_text("P2 as written, read", text_end, 129);
+    memcpy(end_record, ":00000001ff\n", 12);
+    say_text("P2 lower case, read", text_end, 129);
+    memcpy(end_record, ":00000001FF\r\n", 13);
+    say_text("P2 CR LF, read", text_end + 1, 129);
+}
+
+static void malformed_texts(void)
+{
+    written_a();
+    text[9] = 'G';
+    say_text("P2 G for a digit, read", text_end, 129);
+    written_a();
+    say_text("P2 last line feed missing, read", text_end - 1, 129);
+    *text_end = '\n';
+    say_text("P2 a line after the end, read", text_end + 1, 129);
+}
+
+static void say_last_data(const char *name, const char *record)
+{
+    written_a();
+    memcpy(last_data, record, 13);
+    say_text(name, text_end, 129);
+}
+
+static void faulty_records(void)
+{
+    say_last_data("P2 checksum 77, read", ":010080000777");
+    say_last_data("P2 type 01 with data, read", ":010080010777");
+    say_last_data("P2 type 04, read", ":010080040774");
+    say_last_data("P2 address 129, read", ":010081000777");
+    say_last_data("P2 address 127 twice, read", ":01007F000779");
+}
+
+static void missing_parts_and_sizes(void)
+{
+    written_a();
+    say_text("P2 end record missing, read", end_record, 129);
+    say_text("P2 empty text, read", text, 129);
+    say_text("P2 N 130, read", text_end, 130);
+    say_text("P2 N 120, read", text_end, 120);
+    say_text("P2 N 40, read", text_end, 40);
+}
+
 int main(void)
 {
     bench_list();
     marks_and_lags();
     wear();
     mended();
+    writing();
+    longest();
+    good_texts();
+    malformed_texts();
+    faulty_records();
+    missing_parts_and_sizes();
     return 0;
 }

@@ -5,8 +5,8 @@ use counter::doors;
 use counter::doors::ReadAnswer;
 use counter::verdict::Answer;
 
-// The cells of the largest chip.
-const LARGEST: usize = 512;
+// The cells of the largest chip, and the signs of the longest text.
+pub const LARGEST: usize = 512;
 
 const BLANK: u8 = 0xFF;
 
@@ -64,8 +64,8 @@ pub(crate) fn wear(mut chip: Chip, at: usize) -> Chip {
     chip
 }
 
-// No chip has more cells than the largest.
-fn at_most_largest(size: usize) -> usize
+// No chip has more cells than the largest, and no text more signs than the longest.
+pub(crate) fn at_most_largest(size: usize) -> usize
     ensures { λ r. ⌜ r ≤ 512 ⌝ }
 {
     if size < LARGEST {
@@ -128,4 +128,11 @@ pub(crate) fn cell(chip: Chip, at: usize) -> u64 {
         return wide(chip.image[at]);
     }
     0
+}
+
+// Whether two chips have the same cells.
+pub(crate) fn is_alike(one: Chip, other: Chip) -> bool {
+    let first = one.image;
+    let second = other.image;
+    check::same(&first, &second)
 }

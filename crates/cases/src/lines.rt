@@ -1,4 +1,4 @@
-// A line for each case: its name, the answer's six numbers and, where they say more, some cells, or the counts of mended bits.
+// A line for each case: its name, the answer's numbers and, where they say more, some cells, or the counts of mended bits.
 use super::chips::Chip;
 use super::chips::blank;
 use super::chips::cell;
@@ -103,4 +103,24 @@ pub(crate) fn say_mended(name: &[u8], chip: Chip) {
 // Opens a blank chip.
 pub(crate) fn say_blank(name: &[u8], size: usize, map: usize, start: usize, end: usize) {
     say_open(name, blank(size, map, start, end), NONE, NONE);
+}
+
+fn print_hex(name: &[u8], answer: hex::Answer) {
+    io::write_all(STDOUT_FILENO, name);
+    print_number(b": code=", answer.code as u64);
+    print_number(b" line=", answer.line as u64);
+    print_number(b" length=", answer.length as u64);
+}
+
+pub(crate) fn say_written(name: &[u8], answer: hex::Answer) {
+    print_hex(name, answer);
+    io::write_all(STDOUT_FILENO, b"\n");
+}
+
+// With whether the image that a text was read into is now the one that was written, and whether it is kept as it was.
+pub(crate) fn say_taken(name: &[u8], answer: hex::Answer, written: bool, kept: bool) {
+    print_hex(name, answer);
+    print_number(b" written=", written as u64);
+    print_number(b" kept=", kept as u64);
+    io::write_all(STDOUT_FILENO, b"\n");
 }

@@ -3,11 +3,14 @@
 mod bench;
 mod chips;
 mod edges;
+mod hexes;
 mod lines;
 mod mended;
+mod texts;
 
 fn main() {
     bench::cases();
     edges::cases();
     mended::cases();
+    hexes::cases();
 }

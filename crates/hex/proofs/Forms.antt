@@ -90,8 +90,8 @@ module _ (text : List ℕ) (at : ℕ) where
     pub by-tail : headed ≡ true
         → faultAt text at cells
         ≡ cond (ltb (total (allAt text at)) noDigit && ltb 0 (nextAt text at))
-          (verdict (total (allAt text at)) (kindAt text at) (addressAt text at) (countAt text at) (length cells)
-          (someTaken (take (countAt text at) (drop (addressAt text at) cells))))
-          1
+        (verdict (total (allAt text at)) (kindAt text at) (addressAt text at) (countAt text at) (length cells)
+        (someTaken (take (countAt text at) (drop (addressAt text at) cells))))
+        1
     unfolding faultAt formedAt
     by-tail there = rw (whole-sum there, both (eqb (getD text at 0) colon) (ltb (countAt text at) 256) there .0) refl

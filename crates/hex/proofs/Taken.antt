@@ -59,12 +59,12 @@ free-sets cells address bytes each inside none =
     let middle = take (length bytes) (drop address cells) in
     let back = drop (address + length bytes) cells in
     let whole : cells ≡ front ++ (middle ++ back) =
-        sym (take-append-drop address cells)
-        ∙ ap (λ (l : List ℕ). front ++ l) (sym (take-append-drop (length bytes) (drop address cells)) ∙ ap (λ (l : List ℕ). middle ++ l) (drop-drop (length bytes) address cells)) in
+    sym (take-append-drop address cells)
+    ∙ ap (λ (l : List ℕ). front ++ l) (sym (take-append-drop (length bytes) (drop address cells)) ∙ ap (λ (l : List ℕ). middle ++ l) (drop-drop (length bytes) address cells)) in
     let before : free cells ≡ free front + (free middle + free back) =
-        ap free whole ∙ free-append front (middle ++ back) ∙ ap (λ n. free front + n) (free-append middle back) in
+    ap free whole ∙ free-append front (middle ++ back) ∙ ap (λ n. free front + n) (free-append middle back) in
     let after : free (sets cells address bytes) ≡ free front + free bytes + free back =
-        ap free (sets-eq bytes cells address inside) ∙ free-append (front ++ bytes) back ∙ ap (λ n. n + free back) (free-append front bytes) in
+    ap free (sets-eq bytes cells address inside) ∙ free-append (front ++ bytes) back ∙ ap (λ n. n + free back) (free-append front bytes) in
     omega (arith, before, after, bytes-free bytes each, none-taken middle none, length-take (length bytes) (drop address cells), length-drop address cells)
 
 -- one cell more was copied

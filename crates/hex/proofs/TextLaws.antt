@@ -70,12 +70,11 @@ module _ {text before cells : List ℕ} {at done : ℕ} where
     line-taken none =
         let (first, more, lines) = line-there text at inside in
         let (further, rest, count, leaves) = goes-on text at cells first more lines (sym (is .code) ∙ none) in
-        let fault : faultOf (memory cells false) first ≡ 0 = fault-is text at cells first more lines ∙ sym (is .code) ∙ none in
-        (
+        let fault : faultOf (memory cells false) first ≡ 0 = fault-is text at cells first more lines ∙ sym (is .code) ∙ none in (
           omega (arith, further, is .next none),
           record {
             goes = λ image. under .goes image ∙ rw (lines, fault, leaves, rest, is .next none, is .closed none, is .stored none) refl;
-          }
+          },
         )
 
     -- so many cells were filled
@@ -105,15 +104,15 @@ module _ {text before cells : List ℕ} {at done : ℕ} where
   closed-well says filled under counted same =
       choose (ltb at (length text))
       (λ more.
-        let (first, others, lines) = line-there text at (ltb-true at (length text) more) in
-        refusal says (rw more at same) (λ none. absurd (omega (arith, none)))
-        (λ image. under .goes image ∙ rw lines (fault-first image cells done true first others refl (λ none. absurd (omega (arith, none))))))
+      let (first, others, lines) = line-there text at (ltb-true at (length text) more) in
+      refusal says (rw more at same) (λ none. absurd (omega (arith, none)))
+      (λ image. under .goes image ∙ rw lines (fault-first image cells done true first others refl (λ none. absurd (omega (arith, none))))))
       (λ none.
-        let past = over text at (ltb-false at (length text) none) in
-        choose (eqb filled (length cells))
-        (λ all.
-          let taken : allTaken cells ≡ true = none-free cells ∙ eq-eqb (free cells) 0 (omega (arith, counted, eqb-true filled (length cells) all)) in
-          record { reads = λ image. rw (rw (none, all) at same) (sym (under .goes image ∙ rw (past, taken) refl)); taken = λ good. taken })
-        (λ some.
-          let lacking : allTaken cells ≡ false = none-free cells ∙ ne-eqb (free cells) 0 (λ zero. eqb-false filled (length cells) some (omega (arith, counted, zero))) in
-          refusal says (rw (none, some) at same) (λ zero. absurd (omega (arith, zero))) (λ image. under .goes image ∙ rw (past, lacking) refl)))
+      let past = over text at (ltb-false at (length text) none) in
+      choose (eqb filled (length cells))
+      (λ all.
+      let taken : allTaken cells ≡ true = none-free cells ∙ eq-eqb (free cells) 0 (omega (arith, counted, eqb-true filled (length cells) all)) in
+      record { reads = λ image. rw (rw (none, all) at same) (sym (under .goes image ∙ rw (past, taken) refl)); taken = λ good. taken })
+      (λ some.
+      let lacking : allTaken cells ≡ false = none-free cells ∙ ne-eqb (free cells) 0 (λ zero. eqb-false filled (length cells) some (omega (arith, counted, zero))) in
+      refusal says (rw (none, some) at same) (λ zero. absurd (omega (arith, zero))) (λ image. under .goes image ∙ rw (past, lacking) refl)))

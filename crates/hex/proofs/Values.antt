@@ -51,6 +51,7 @@ kinds sign =
     one-of false true c first second third = inl (second refl)
     one-of false false true first second third = inl (third refl)
     one-of false false false first second third = inr refl
+
     few : (low high less : ℕ) → high < less + 16 → within low high sign ≡ true → sign - less < 16
     few low high less near inside = omega (arith, near, leb-true sign high (both (leb low sign) (leb sign high) inside .1))
 

@@ -109,14 +109,14 @@ module _ {text : List ℕ} {at : ℕ} {signs : List ℕ} (w : Whole text at sign
       by-end : Ends (w .tail) (w .rest) → (at < nextAt text at) × (linesOf (drop at text) ≡ line signs true ∷ linesOf (drop (nextAt text at) text))
       by-end (inl feed) =
           let past : nextAt text at ≡ at + length signs + 1 =
-              rw long (end-feed text (at + length signs + 0) (behind text at signs (w .tail) (w .split) 0 ∙ ap (λ (l : List ℕ). getD l 0 0) feed) ∙ omega arith) in
+          rw long (end-feed text (at + length signs + 0) (behind text at signs (w .tail) (w .split) 0 ∙ ap (λ (l : List ℕ). getD l 0 0) feed) ∙ omega arith) in
           let left : drop (nextAt text at) text ≡ w .rest = rw past (rest-behind text at signs (w .tail) (w .split) 1 ∙ ap (drop 1) feed) in
           (omega (arith, past), rw (left, w .split, feed) (line-feed signs (w .rest) (digits-plain signs (w .digits))))
       by-end (inr return) =
           let next : at + length signs + 0 + 1 ≡ at + length signs + 1 = omega arith in
           let past : nextAt text at ≡ at + length signs + 2 =
-              rw long (end-return text (at + length signs + 0) (behind text at signs (w .tail) (w .split) 0 ∙ ap (λ (l : List ℕ). getD l 0 0) return)
-              (rw next (behind text at signs (w .tail) (w .split) 1 ∙ ap (λ (l : List ℕ). getD l 1 0) return)) ∙ omega arith) in
+          rw long (end-return text (at + length signs + 0) (behind text at signs (w .tail) (w .split) 0 ∙ ap (λ (l : List ℕ). getD l 0 0) return)
+          (rw next (behind text at signs (w .tail) (w .split) 1 ∙ ap (λ (l : List ℕ). getD l 1 0) return)) ∙ omega arith) in
           let left : drop (nextAt text at) text ≡ w .rest = rw past (rest-behind text at signs (w .tail) (w .split) 2 ∙ ap (drop 2) return) in
           (omega (arith, past), rw (left, w .split, return) (line-return signs (w .rest) (digits-plain signs (w .digits))))
 
@@ -126,9 +126,9 @@ module _ {text : List ℕ} {at : ℕ} {signs : List ℕ} (w : Whole text at sign
   whole-formed =
       let here : at + 0 ≡ at = omega arith in
       let first : getD text at 0 ≡ colon =
-          rw here at (sym (getD-drop at text 0 0) ∙ ap (λ (l : List ℕ). getD l 0 0) (w .split) ∙ List·getD-append signs (w .tail) 0 0 (omega (arith, w .whole)) ∙ colon-first signs (w .digits)) in
+      rw here at (sym (getD-drop at text 0 0) ∙ ap (λ (l : List ℕ). getD l 0 0) (w .split) ∙ List·getD-append signs (w .tail) 0 0 (omega (arith, w .whole)) ∙ colon-first signs (w .digits)) in
       let bytes : allBytes (allAt text at) ≡ true =
-          rw (← count-there) (ap allBytes (sym (run-there 1 (countOf signs + 5) (omega arith))) ∙ bytes-all _ (data-bytes signs 1 (countOf signs + 5) (w .digits) (omega arith) (omega (arith, w .whole)))) in
+      rw (← count-there) (ap allBytes (sym (run-there 1 (countOf signs + 5) (omega arith))) ∙ bytes-all _ (data-bytes signs 1 (countOf signs + 5) (w .digits) (omega arith) (omega (arith, w .whole)))) in
       rw (first, bytes, lt-ltb 0 (nextAt text at) (omega (arith, next-there .0))) refl
 
 return-there : (text : List ℕ) (at : ℕ) → eqb (getD text at 0) lineFeed ≡ false → 0 < endAt text at
@@ -168,15 +168,15 @@ pair-digits text at (suc n) inside bytes =
     let small = ltb-true (16 * high + low) 256 byte in
     ap (λ (l : List ℕ). allDigits (take (2 * suc n) l)) (two-more text at (omega arith))
     ∙ rw (two, lt-ltb high 16 (omega (arith, small)), lt-ltb low 16 (digit-of (getD text (at + 1) 0) (omega (arith, small))))
-      (pair-digits text (at + 2) n (omega arith) more)
+    (pair-digits text (at + 2) n (omega arith) more)
 
 -- a line end that stands at an index
 end-there : (text : List ℕ) (at : ℕ) → 0 < endAt text at → Ends (drop at text) (drop (endAt text at) text)
 end-there text at there =
     choose (eqb (getD text at 0) lineFeed)
     (λ is.
-      let feed = eqb-true (getD text at 0) lineFeed is in
-      rw (end-feed text at feed) (inl (one-more text at (end-inside text at there) ∙ ap (λ (sign : ℕ). sign ∷ drop (at + 1) text) feed)))
+    let feed = eqb-true (getD text at 0) lineFeed is in
+    rw (end-feed text at feed) (inl (one-more text at (end-inside text at there) ∙ ap (λ (sign : ℕ). sign ∷ drop (at + 1) text) feed)))
     (λ other. by-return other)
   where
     by-return : eqb (getD text at 0) lineFeed ≡ false → Ends (drop at text) (drop (endAt text at) text)
@@ -248,11 +248,20 @@ module _ (text : List ℕ) (at : ℕ) (cells : List ℕ) (first : Line) (more : 
   fault-is =
       choose (formedAt text at)
       (λ formed.
-        let w = formed-whole text at formed in
-        let signs = take (11 + 2 * countAt text at) (drop at text) in
-        rw (first-is w, w .digits, eq-eqb (length signs) (11 + 2 * countOf signs) (w .whole), run-there w 1 (countOf signs + 5) (omega arith), count-there w,
-        part-there w 3 (omega arith), part-there w 5 (omega arith), part-there w 7 (omega arith), formed)
-        (swapped (lawful (kindAt text at) (addressAt text at) (countAt text at)) _ _))
+      let w = formed-whole text at formed in
+      let signs = take (11 + 2 * countAt text at) (drop at text) in
+      rw (
+        first-is w,
+        w .digits,
+        eq-eqb (length signs) (11 + 2 * countOf signs) (w .whole),
+        run-there w 1 (countOf signs + 5) (omega arith),
+        count-there w,
+        part-there w 3 (omega arith),
+        part-there w 5 (omega arith),
+        part-there w 7 (omega arith),
+        formed,
+      )
+      (swapped (lawful (kindAt text at) (addressAt text at) (countAt text at)) _ _))
       (λ not-so. rw not-so (not-first not-so))
 
   -- without a fault: where the next line begins, and what the first one leaves
@@ -262,12 +271,11 @@ module _ (text : List ℕ) (at : ℕ) (cells : List ℕ) (first : Line) (more : 
   unfolding after
   goes-on none =
       let w = formed-whole text at (formed none) in
-      let signs = take (11 + 2 * countAt text at) (drop at text) in
-      (
+      let signs = take (11 + 2 * countAt text at) (drop at text) in (
         next-there w .0,
         tail-eq-of-cons-eq (sym lines ∙ next-there w .1),
         ap (λ (l : Line). countOf (l .signs)) (first-is w) ∙ count-there w,
-        rw (first-is w, run-there w 9 (countOf signs) (omega arith), count-there w, part-there w 3 (omega arith), part-there w 5 (omega arith), part-there w 7 (omega arith)) refl
+        rw (first-is w, run-there w 9 (countOf signs) (omega arith), count-there w, part-there w 3 (omega arith), part-there w 5 (omega arith), part-there w 7 (omega arith)) refl,
       )
     where
       formed : faultAt text at cells ≡ 0 → formedAt text at ≡ true

@@ -99,8 +99,8 @@ sumWith text at head held = head .sum + held .sum + byteAt text at
 
 pub record Judged (text : List ℕ) (at : ℕ) (head : Head) (held : Data) (size : ℕ) (read : Read) : Type 0 where
   pub code :
-    read .code
-    ≡ cond (ltb (sumWith text at head held) noDigit && ltb 0 (endAt text (at + 2)))
+      read .code
+      ≡ cond (ltb (sumWith text at head held) noDigit && ltb 0 (endAt text (at + 2)))
       (verdict (sumWith text at head held) (head .kind) (head .address) (head .count) size (held .twice))
       1
   pub next : read .code ≡ 0 → read .next ≡ endAt text (at + 2)

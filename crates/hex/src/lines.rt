@@ -195,14 +195,7 @@ fn other_fault(sum: usize) -> u32
 }
 
 // What any record in form is at fault for: 1 for one that is not lawful, 0 for nothing. Most are data records.
-fn fault_of(
-    sum: usize,
-    kind: usize,
-    address: usize,
-    count: usize,
-    size: usize,
-    twice: bool,
-) -> u32
+fn fault_of(sum: usize, kind: usize, address: usize, count: usize, size: usize, twice: bool) -> u32
     requires { ⌜ (address < 4294967296) × (count < 256) ⌝ }
     ensures { λ r. ⌜ r ≡ verdict sum kind address count size twice ⌝ }
 {
@@ -249,14 +242,7 @@ fn malformed() -> Read
 }
 
 // Reads what stands behind the data of a line, from its checksum on, and judges the line.
-fn judge(
-    values: &[u32; 256],
-    text: &[u8],
-    at: usize,
-    head: Head,
-    held: Data,
-    size: usize,
-) -> Read
+fn judge(values: &[u32; 256], text: &[u8], at: usize, head: Head, held: Data, size: usize) -> Read
     requires { ⌜ Laid (now values) × (at + 3 ≤ length (now text)) × (head .address < 4294967296) × (head .count < 256) × (head .sum < 4294967296) × (held .sum < 4294967296) ⌝ }
     ensures { λ r. ⌜ Judged (now (text .entry)) at head held size r ⌝ }
 {
@@ -268,14 +254,7 @@ fn judge(
     if next == 0 {
         return malformed();
     }
-    let code = fault_of(
-        sum,
-        head.kind,
-        head.address,
-        head.count,
-        size,
-        held.twice,
-    );
+    let code = fault_of(sum, head.kind, head.address, head.count, size, held.twice);
     Read {
         code,
         next,

@@ -1,8 +1,8 @@
 // A whole text read into cells, and cells copied into an image.
+use super::Answer;
 use super::lines::laid;
 use super::lines::read_line;
 use super::refused;
-use super::Answer;
 ghost use Prim.Native.Nat.{_+_, _≤_, _<_};
 ghost use mathlib.Core.Path.{_≡_};
 ghost use mathlib.Core.Bool.{true, cond};

@@ -46,10 +46,16 @@ use Rattle.counter.specs.declared.doors.Part as doors
 use Rattle.lyre.specs.declared.Answer as plain
 use Rattle.lyre.specs.declared.ReadAnswer as plainReading
 use Rattle.lyre.specs.declared.Part as plainPart
+use Rattle.lyre.specs.declared.Hex as plainHex
 use Rattle.lyre.proofs.lyre_open
 use Rattle.lyre.proofs.lyre_step
 use Rattle.lyre.proofs.lyre_read
 use Rattle.lyre.proofs.lyre_map_part
+use Rattle.lyre.proofs.lyre_hex_write
+use Rattle.lyre.proofs.lyre_hex_read
+use Rattle.hex.specs.declared.Answer as hex
+use Rattle.hex.proofs.write_image
+use Rattle.hex.proofs.read_image
 use Rattle.text.specs.Text.{Wrote}
 use Rattle.text.proofs.write_byte
 use Rattle.text.proofs.write_bytes
@@ -60,7 +66,7 @@ use Rattle.text.proofs.write_signed_line
 use Prim.Native.Nat.{ℕ}
 use mathlib.Core.List.{List}
 
--- an answer, that of read, and a part as they are laid out for C
+-- an answer, that of read, a part and the answer of Intel HEX as they are laid out for C
 abbrev answerOut : verdict.Answer → plain.Answer
 answerOut a = record { code = a .code; count = a .count; lag = a .lag; place = a .place; writes = a .writes; tried = a .tried }
 
@@ -71,6 +77,9 @@ readAnswerOut r =
 
 abbrev partOut : doors.Part → plainPart.Part
 partOut p = record { code = p .code; start = p .start; length = p .size }
+
+abbrev hexOut : hex.Answer → plainHex.Hex
+hexOut a = record { code = a .code; line = a .line; length = a .length }
 
 -- bytes written are seen by where they end and by the text as it is left
 one-text :
@@ -177,6 +186,18 @@ module _ {M : Type 1} (𝓤 : URA M) where
 
     pub lyre-map-part-one : Sole 𝓤 lyre_map_part.ended (lyre_map_part.clauses 𝓤 H A mem run) (λ κs r at. r)
     lyre-map-part-one _ _ _ _ _ _ _ = same partOut
+
+    pub lyre-hex-write-one : Sole 𝓤 lyre_hex_write.ended (lyre_hex_write.clauses 𝓤 H A mem run) (λ κs r at. filled r (now (at .1 .0)))
+    lyre-hex-write-one _ _ _ _ _ _ _ = same (λ v. filled (hexOut (v .answer)) (v .left))
+
+    pub lyre-hex-read-one : Sole 𝓤 lyre_hex_read.ended (lyre_hex_read.clauses 𝓤 H A mem run) (λ κs r at. filled r (now (at .1 .0)))
+    lyre-hex-read-one _ _ _ _ _ _ _ = same (λ v. filled (hexOut (v .answer)) (v .left))
+
+    pub write-image-one : Sole 𝓤 write_image.ended (write_image.clauses 𝓤 H A mem run) (λ κs r at. filled r (now (at .1 .0)))
+    write-image-one _ _ _ _ _ _ _ = same (λ v. filled (v .answer) (v .left))
+
+    pub read-image-one : Sole 𝓤 read_image.ended (read_image.clauses 𝓤 H A mem run) (λ κs r at. filled r (now (at .1 .0)))
+    read-image-one _ _ _ _ _ _ _ = same (λ v. filled (v .answer) (v .left))
 
     pub write-byte-one : Sole 𝓤 write_byte.ended (write_byte.clauses 𝓤 H A mem run) (λ κs r at. filled r (now (at .1 .0)))
     write-byte-one _ _ _ _ _ _ _ = both one-text

@@ -29,13 +29,13 @@ pub record Handed : Type 0 where
 abbrev pub handed : ℕ × ℕ → List ℕ → ℕ → Handed
 handed place cells code = record { place = place; cells = cells; code = code }
 
--- a text as it is left, and where what was written into it ends
-pub record Filled : Type 0 where
-  pub next : ℕ
-  pub text : List ℕ
+-- a result, as where what was written ends, beside the lent bytes as they are left
+pub record Filled (R : Type 0) : Type 0 where
+  pub result : R
+  pub bytes : List ℕ
 
-abbrev pub filled : ℕ → List ℕ → Filled
-filled next text = record { next = next; text = text }
+abbrev pub filled : {R : Type 0} → R → List ℕ → Filled R
+filled r bytes = record { result = r; bytes = bytes }
 
 -- what a caller sees of an end
 abbrev pub Sight : Ended → Type 0 → Type 0

@@ -37,7 +37,7 @@ returns-2 c =
     let long = c .before .before in
     let start = long .before .before .before .before .before in
     let short : length (start .args .text .now) < length (standardText (start .args .image .now)) =
-        omega (arith, c .before .if2 .taken, long .length-for .ensures, length-standard (start .args .image .now)) in
+    omega (arith, c .before .if2 .taken, long .length-for .ensures, length-standard (start .args .image .now)) in
     rw (c .refused2 .ensures, right (long .before), lt-ltb _ _ short)
 
 -- there is room for the standard text

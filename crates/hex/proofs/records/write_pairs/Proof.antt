@@ -62,13 +62,12 @@ same-length c = c .before .loop .inv .same
 
 returns : tie.Need-returns Inv-loop μ-loop
 returns c =
-    let inv = c .before .loop .inv in
-    (
+    let inv = c .before .loop .inv in (
       rw (take-all _ _ (c .loop-test .left)) at (inv .sums),
       record {
         ends = omega (arith, length-digits (c .before .before .before .before .args .bytes .now));
         holds = rw (take-all _ _ (c .loop-test .left)) at (inv .wrote .holds);
-      }
+      },
     )
 
 pub write-pairs-spec : {M : Type 1} → statement M

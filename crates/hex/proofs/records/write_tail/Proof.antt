@@ -22,7 +22,7 @@ returns c =
     let check = pair .before .before in
     let start = check .before .before in
     let is : (256 - start .args .sum % 256) % 256 ≡ check .wrapping-sub-u8 .result =
-        omega (arith, check .wrapping-sub-u8 .ensures, check .wrapping-sub-u8 .ok, start .fits .sum) in
+    omega (arith, check .wrapping-sub-u8 .ensures, check .wrapping-sub-u8 .ok, start .fits .sum) in
     rw is
     (wrote-on _ _ (omega (arith, pair .write-pair .ensures .ends, feed .write-byte .ensures .ends, start .pre)) (pair .write-pair .ensures) (feed .write-byte .ensures))
 

@@ -64,7 +64,7 @@ left-free c =
 next : (c : tie.Else1 Inv-loop μ-loop) → let line = c .before .before .before .before in let loop = turn line .before .loop in
     (loop .at < line .read-line .result .next)
     × Under (turn line .before .before .before .before .before .args .text .now) (turn line .before .before .before .before .before .args .cells .now)
-      (line .read-line .last .1 .1 .1 .0) (line .read-line .result .next) (loop .done + 1) (line .read-line .result .closed)
+    (line .read-line .last .1 .1 .1 .0) (line .read-line .result .next) (loop .done + 1) (line .read-line .result .closed)
 next c =
     let line = c .before .before .before .before in
     let turn = turn line in
