@@ -9,7 +9,8 @@ lay() {
     tr -s ' \n' ' ' | sed -E 's/ ?([(){;]) ?/\1/g; s/,?\)/)/g' | grep -oE "$1" || true
 }
 
-# A slice is a pointer and a length; the image's length is called n.
+# A slice is a pointer and a length; an image's length is called n, and a text's room where it is written into, length where it is
+# read.
 sed 's:^ *//.*::' "$root/crates/lyre/src/lib.rt" |
     lay '#\[repr\(C\)\] pub struct [^}]*\}|#\[no_mangle\] pub extern "C" fn [^)]*\)-> [A-Za-z]+' |
     sed -E '
@@ -19,6 +20,8 @@ sed 's:^ *//.*::' "$root/crates/lyre/src/lib.rt" |
         s/(\w+): &mut \[u(8|32)\]/uint\2_t *\1, size_t \1_n/g
         s/(\w+): &\[u(8|32)\]/const uint\2_t *\1, size_t \1_n/g
         s/image_n/n/
+        s/(const uint8_t \*text, size_t) text_n/\1 length/
+        s/(uint8_t \*text, size_t) text_n/\1 room/
         s/(pub )?(\w+): \[u32; ?([0-9]+)\]/uint32_t \2[\3]/g
         s/(pub )?(\w+): u(32|64)/uint\3_t \2/g
         s/(pub )?(\w+): i64/int64_t \2/g
@@ -26,7 +29,7 @@ sed 's:^ *//.*::' "$root/crates/lyre/src/lib.rt" |
         /^typedef/s/, ?/;/g' >"$work/source"
 sed -E '/^#/d; s:/\*[^*]*\*/::g; /\/\*/,/\*\//d' "$root/include/lyre.h" |
     lay 'typedef struct\{[^}]*\} \w+;|[^;{}]*\([^)]*\);' >"$work/header"
-[ "$(wc -l <"$work/source")" -eq 7 ] || { echo 'header: not seven exports in the source'; cat "$work/source"; exit 1; }
+[ "$(wc -l <"$work/source")" -eq 10 ] || { echo 'header: not ten exports in the source'; cat "$work/source"; exit 1; }
 diff "$work/source" "$work/header" || { echo 'header: lyre.h (>) is not what the source exports (<)'; exit 1; }
 
 $compiler -fsyntax-only -x c - <<C
@@ -42,5 +45,9 @@ AT(lyre_part, code, 0);
 AT(lyre_part, start, 8);
 AT(lyre_part, length, 16);
 _Static_assert(sizeof(lyre_part) == 24, "lyre_part");
+AT(lyre_hex, code, 0);
+AT(lyre_hex, line, 8);
+AT(lyre_hex, length, 16);
+_Static_assert(sizeof(lyre_hex) == 24, "lyre_hex");
 C
 echo 'header: lyre.h declares what the archive exports'

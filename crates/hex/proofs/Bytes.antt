@@ -1,14 +1,14 @@
 -- Bytes read one after another from a text, and stored one after another.
 use Prim.Native.Nat.{ℕ, zero, suc, _+_, _*_, _%_, _<_, _≤_}
 use mathlib.Core.Path.{_≡_, refl, sym, ap, _∙_}
-use mathlib.Core.Bool.{Bool, true, false, _&&_, _||_, and-assoc, and-false, or-assoc, or-false, true≢false}
+use mathlib.Core.Bool.{Bool, true, false, _&&_, _||_, and-assoc, or-assoc, or-false, true≢false}
 use mathlib.Core.List.{List, [], _∷_, _++_}
 use native.Mathlib.Decide.{decLe}
 use native.Mathlib.Nat.{add-zero}
 use native.Mathlib.Omega.{arith}
 use native.Mathlib.Numerals.{add-one}
 use borrow.Author.Tests.{lt-ltb, le-ltb, ltb-true}
-use lib.ListN.{length, getD, take, drop, set, length-set, length-drop}
+use lib.ListN.{length, getD, take, drop, set, length-drop}
 use lib.Dec.{ltb}
 use lib.Seq.{sets, take-suc, getD-drop, getD-set-other}
 use Rattle.hex.specs.Signs.{noDigit, byteAt, bytesAt, total}
@@ -92,18 +92,19 @@ some-next cells address k inside =
     rw (add-one, take-suc (drop address cells) k 0 (omega (arith, length-drop address cells)), getD-drop address cells k 0)
     (some-append (take k (drop address cells)) _ ∙ ap (λ b. someTaken (take k (drop address cells)) || b) (or-false _))
 
--- storing one more behind some, and what stands past them
+-- a cell that is not stored to stays
+pub sets-other : (bytes cells : List ℕ) (at a : ℕ) → (at ≤ a → at + length bytes ≤ a) → getD (sets cells at bytes) a 0 ≡ getD cells a 0
+sets-other [] cells at a out = refl
+sets-other (byte ∷ bytes) cells at a out =
+    sets-other bytes (set cells at byte) (suc at) a (λ past. omega (arith, out (omega arith)))
+    ∙ getD-set-other cells at a byte 0 (λ e. omega (arith, out (omega arith)))
+
+-- storing one more behind some
 pub sets-next : (bytes cells : List ℕ) (address byte : ℕ) → sets cells address (bytes ++ (byte ∷ [])) ≡ set (sets cells address bytes) (address + length bytes) byte
 sets-next [] cells address byte = rw add-zero
 sets-next (x ∷ bytes) cells address byte =
     let next : address + suc (length bytes) ≡ suc address + length bytes = omega arith in
     rw next (sets-next bytes (set cells address x) (suc address) byte)
-
-pub past-sets : (bytes cells : List ℕ) (address : ℕ) → getD (sets cells address bytes) (address + length bytes) 0 ≡ getD cells (address + length bytes) 0
-past-sets [] cells address = refl
-past-sets (x ∷ bytes) cells address =
-    let next : address + suc (length bytes) ≡ suc address + length bytes = omega arith in
-    rw next (past-sets bytes (set cells address x) (suc address) ∙ getD-set-other cells address (suc address + length bytes) x 0 (λ same. absurd (omega arith)))
 
 -- the four bytes before the data
 pub head-bytes : (text : List ℕ) (at : ℕ) → bytesAt text (at + 1) 4 ≡ byteAt text (at + 1) ∷ byteAt text (at + 3) ∷ byteAt text (at + 5) ∷ byteAt text (at + 7) ∷ []
@@ -126,5 +127,5 @@ module _ {cells : List ℕ} (before text : List ℕ) (at address k : ℕ) (store
   pub looked-next : {twice : Bool} → twice ≡ someTaken (take k (drop address before)) → address + k < length before
       → (twice || ltb (getD cells (address + k) 0) notYet) ≡ someTaken (take (k + 1) (drop address before))
   looked-next looked inside =
-      let past = rw (length-bytes text at k) at (past-sets (bytesAt text at k) before address) in
+      let past = sets-other (bytesAt text at k) before address (address + k) (λ inside. omega (arith, length-bytes text at k)) in
       rw (looked, stored, past) (sym (some-next before address k inside))

@@ -13,19 +13,14 @@ use lib.Seq.{sets, sets-eq, getD-set-other, getD-take, getD-drop, getD-append-ad
 use Rattle.hex.specs.Lines.{Line, line, linesOf}
 use Rattle.hex.specs.Faults.{countOf, addressOf, dataOf, Memory, notYet, someTaken, allTaken, faultOf, after}
 use Rattle.hex.specs.Doors.{readOf, blank}
+use Rattle.hex.specs.Covered.{has, howOften, byteFor}
 use Rattle.hex.proofs.LineLaws.{choose, both}
-use Rattle.hex.proofs.ReadLaws.{neither, Faultless, faultless, length-bytes, data-bytes, read-text, taken-bytes}
+use Rattle.hex.proofs.Bytes.{length-bytes, sets-other}
+use Rattle.hex.proofs.ReadLaws.{neither, Faultless, faultless, data-bytes, read-text, taken-bytes}
 
 -- ---- what is stored
 
--- a cell that is not stored to stays
-sets-other : (bytes cells : List ℕ) (at a : ℕ) → (at ≤ a → at + length bytes ≤ a) → getD (sets cells at bytes) a 0 ≡ getD cells a 0
-sets-other [] cells at a out = refl
-sets-other (byte ∷ bytes) cells at a out =
-    sets-other bytes (set cells at byte) (suc at) a (λ past. omega (arith, out (omega arith)))
-    ∙ getD-set-other cells at a byte 0 (λ e. omega (arith, out (omega arith)))
-
--- and one that is has its byte
+-- a cell that is stored to has its byte
 sets-same : (bytes cells : List ℕ) (at k : ℕ) → at + length bytes ≤ length cells → k < length bytes
     → getD (sets cells at bytes) (at + k) 0 ≡ getD bytes k 0
 sets-same bytes cells at k room inside =
@@ -42,19 +37,6 @@ not-taken (cell ∷ cells) zero free inside = ltb-false cell notYet (neither _ _
 not-taken (cell ∷ cells) (suc k) free inside = not-taken cells k (neither (ltb cell notYet) _ free .1) (omega arith)
 
 -- ---- how often an address is covered
-
--- whether a line has data for an address
-abbrev pub has : ℕ → List ℕ → Bool
-has a signs = leb (addressOf signs) a && ltb a (addressOf signs + countOf signs)
-
--- how many of the data bytes of some lines go to an address
-unfoldable pub howOften : ℕ → List Line → ℕ
-howOften a [] = 0
-howOften a (line ∷ lines) = cond (has a (line .signs)) 1 0 + howOften a lines
-
--- the byte that a line has for an address
-abbrev pub byteFor : ℕ → List ℕ → ℕ
-byteFor a signs = getD (dataOf signs) (a - addressOf signs) 0
 
 -- what a line with no fault does to the cell of an address
 module _ (cells signs : List ℕ) (fine : Faultless cells signs) (a : ℕ) where

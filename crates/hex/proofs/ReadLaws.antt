@@ -16,6 +16,7 @@ use Rattle.hex.specs.Faults.{countOf, addressOf, kindOf, dataOf, sumOf, 
 use Rattle.hex.specs.Faults.{Memory, notYet, someTaken, allTaken, faultOf, after}
 use Rattle.hex.specs.Doors.{sized, atEnd, readLines, blank, readOf}
 use Rattle.hex.proofs.LineLaws.{choose, both}
+use Rattle.hex.proofs.Bytes.{length-bytes}
 use Rattle.hex.proofs.RecordLaws.{Bytes, bytes-cons}
 
 -- ---- a line with no fault
@@ -58,12 +59,6 @@ faultless m line none =
     }
 
 -- ---- the bytes of a line
-
--- so many bytes
-pub length-bytes : (signs : List ℕ) (i n : ℕ) → length (bytesAt signs i n) ≡ n
-unfolding bytesAt
-length-bytes signs i zero = refl
-length-bytes signs i (suc n) = ap suc (length-bytes signs (i + 2) n)
 
 -- each sign is a digit, so a pair of them is a byte
 digit-small : (signs : List ℕ) (k : ℕ) → allDigits signs ≡ true → k < length signs → valueOf (getD signs k 0) < 16

@@ -1,5 +1,5 @@
 -- The standard text: a record in three parts, what is left of a text from an address on, and how long it is.
-use Prim.Native.Nat.{ℕ, zero, suc, _+_, _*_, _-_, _/_, _%_, _<_, _≤_}
+use Prim.Native.Nat.{ℕ, suc, _+_, _*_, _-_, _/_, _%_, _<_, _≤_}
 use mathlib.Core.Path.{_≡_, refl, sym, ap, _∙_}
 use mathlib.Core.List.{List, [], _∷_, _++_, append-assoc}
 use native.Mathlib.Omega.{arith}
@@ -7,8 +7,8 @@ use lib.ListN.{length, take, drop, length-append, length-take, length-drop}
 use lib.Seq.{take-all}
 use Rattle.text.specs.Text.{Wrote}
 use Rattle.text.proofs.Writing.{wrote-none, wrote-on}
-use Rattle.hex.specs.Signs.{lineFeed, colon, twoDigits, inDigits, total}
-use Rattle.hex.specs.Records.{bodyOf, checksum, recordOf, lineOf, dataKind, endKind, dataLines, recordsIn, standardText}
+use Rattle.hex.specs.Signs.{lineFeed, twoDigits, inDigits, total}
+use Rattle.hex.specs.Records.{bodyOf, checksum, recordOf, lineOf, dataKind, endKind, dataLines, standardText}
 use Rattle.hex.specs.Inside.{headOf, tailOf}
 use Rattle.hex.proofs.Digits.{length-digits, digits-append}
 

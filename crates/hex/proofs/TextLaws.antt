@@ -15,7 +15,8 @@ use Rattle.hex.specs.Faults.{Memory, memory, countOf, addressOf, dataOf,
 use Rattle.hex.specs.Doors.{answer, atEnd, readLines}
 use Rattle.hex.specs.Inside.{LineIs, TextIs}
 use Rattle.hex.proofs.LineLaws.{choose, Some, some-line}
-use Rattle.hex.proofs.ReadLaws.{faultless, length-bytes, data-bytes}
+use Rattle.hex.proofs.Bytes.{length-bytes}
+use Rattle.hex.proofs.ReadLaws.{faultless, data-bytes}
 use Rattle.hex.proofs.Taken.{free, none-free, free-sets}
 use Rattle.hex.proofs.WholeLines.{one-more, fault-is, goes-on}
 

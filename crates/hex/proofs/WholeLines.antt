@@ -7,10 +7,9 @@ use mathlib.Core.List.{List, [], _∷_, _++_, head-eq-of-cons-eq, tail-eq-of-con
 use mathlib.Core.Logic.{_⊎_, inl, inr}
 use native.Mathlib.Decide.{decLe}
 use native.Mathlib.Omega.{arith}
-use native.Mathlib.Numerals.{add-one}
-use borrow.Author.Tests.{eq-eqb, ne-eqb, eqb-true, lt-ltb, ltb-true}
+use borrow.Author.Tests.{eq-eqb, eqb-true, lt-ltb, ltb-true}
 use lib.Dec.{eqb, ltb}
-use lib.ListN.{length, take, drop, getD, length-append, length-take, length-drop, take-append-drop, List·getD-append, List·getD-eq-default}
+use lib.ListN.{length, take, drop, getD, length-take, length-drop, take-append-drop, List·getD-append, List·getD-eq-default}
 use lib.Seq.{sets, drop-cons, drop-drop, getD-drop, getD-append-add, drop-append-add}
 use Rattle.hex.specs.Signs.{lineFeed, carriageReturn, colon, valueOf, byteAt, bytesAt}
 use Rattle.hex.specs.Records.{endKind}

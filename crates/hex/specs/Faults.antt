@@ -3,7 +3,7 @@ use Prim.Native.Nat.{ℕ, _+_, _*_, _%_}
 use mathlib.Core.Bool.{Bool, true, false, cond, not, _&&_, _||_}
 use mathlib.Core.List.{List, [], _∷_}
 use lib.ListN.{length, take, drop}
-use lib.Dec.{eqb, ltb, leb}
+use lib.Dec.{eqb, ltb}
 use lib.Seq.{sets}
 use Rattle.hex.specs.Signs.{colon, valueOf, byteAt, bytesAt, total}
 use Rattle.hex.specs.Records.{dataKind, endKind}

@@ -3,4 +3,5 @@ pub mod Records
 pub mod Lines
 pub mod Faults
 pub mod Doors
+pub mod Covered
 pub mod Inside

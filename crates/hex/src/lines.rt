@@ -1,15 +1,13 @@
 // A text read line by line into a memory of cells, each of which has its byte or none yet.
-ghost use Prim.Native.Nat.{ℕ, _+_, _*_, _%_, _≤_, _<_};
+ghost use Prim.Native.Nat.{_+_, _*_, _%_, _≤_, _<_};
 ghost use mathlib.Core.Path.{_≡_};
 ghost use mathlib.Core.Bool.{cond, not, _&&_, _||_};
-ghost use mathlib.Core.List.{[], _∷_};
-ghost use lib.ListN.{length, take, drop, getD};
+ghost use lib.ListN.{length};
 ghost use lib.Dec.{eqb, ltb};
-ghost use lib.Seq.{sets};
-ghost use Rattle.hex.specs.Signs.{colon, noDigit, valueOf, byteAt, bytesAt, total};
+ghost use Rattle.hex.specs.Signs.{colon, noDigit, valueOf, byteAt};
 ghost use Rattle.hex.specs.Records.{dataKind};
 ghost use Rattle.hex.specs.Faults.{notYet};
-ghost use Rattle.hex.specs.Inside.{Laid, allBytes, endAt, verdict, HeadIs, DataIs, Judged, LineIs};
+ghost use Rattle.hex.specs.Inside.{Laid, endAt, verdict, HeadIs, DataIs, Judged, LineIs};
 
 // A cell that has no byte yet.
 pub(crate) const NOT_YET: u16 = 256;

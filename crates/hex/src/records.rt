@@ -4,10 +4,10 @@ use std::num::wrapping_add_u8;
 use std::num::wrapping_sub_u8;
 ghost use Prim.Native.Nat.{_+_, _*_, _/_, _%_, _≤_, _<_};
 ghost use mathlib.Core.Path.{_≡_};
-ghost use mathlib.Core.List.{[], _∷_, _++_};
-ghost use lib.ListN.{length, take, drop};
+ghost use mathlib.Core.List.{[]};
+ghost use lib.ListN.{length};
 ghost use Rattle.text.specs.Text.{Wrote};
-ghost use Rattle.hex.specs.Signs.{digit, twoDigits, inDigits, total, colon};
+ghost use Rattle.hex.specs.Signs.{digit, twoDigits, inDigits, total};
 ghost use Rattle.hex.specs.Records.{lineOf, recordsIn, standardText, dataKind, endKind};
 ghost use Rattle.hex.specs.Inside.{headOf, tailOf};
 

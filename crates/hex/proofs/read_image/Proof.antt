@@ -2,11 +2,10 @@
 use Prim.Native.Nat.{_≤_}
 use mathlib.Core.Path.{_≡_, sym, ap, _∙_}
 use mathlib.Core.Bool.{true}
-use native.Mathlib.Omega.{arith}
 use borrow.Author.Needs.{needs}
 use borrow.Author.Tests.{not-true, not-false, leb-true}
 use lib.Dec.{leb}
-use lib.ListN.{length, take, replicate, length-replicate}
+use lib.ListN.{length, length-replicate}
 use Rattle.hex.specs.Faults.{notYet}
 use Rattle.hex.specs.Doors.{readOf, sized}
 use Rattle.hex.proofs.LineLaws.{both}

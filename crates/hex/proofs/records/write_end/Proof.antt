@@ -1,8 +1,7 @@
 -- `write_end` meets its contract: the line of the end record, computed.
-use mathlib.Core.Path.{_≡_, refl}
 use borrow.Author.Needs.{needs}
 use Rattle.hex.specs.Signs.{digit, twoDigits, inDigits, total}
-use Rattle.hex.specs.Records.{checksum, recordOf, lineOf}
+use Rattle.hex.specs.Records.{checksum, recordOf}
 use Rattle.hex.proofs.records.write_end.Statement.{statement}
 use Rattle.hex.proofs.records.write_end.Tie as tie
 

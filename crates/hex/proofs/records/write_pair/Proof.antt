@@ -1,5 +1,4 @@
 -- `write_pair` meets its contract: the two digits, one after the other.
-use mathlib.Core.List.{[], _∷_}
 use native.Mathlib.Omega.{arith}
 use borrow.Author.Needs.{needs}
 use Rattle.hex.specs.Signs.{twoDigits}

@@ -1,7 +1,7 @@
 -- `write_pairs` meets its contract. The invariant of its loop: the first `done` bytes were written and added up. The measure is what
 -- is left of them.
 use Prim.Native.Nat.{_+_, _≤_, _-_, _*_, _%_}
-use mathlib.Core.Path.{_≡_, refl, sym, ap, _∙_}
+use mathlib.Core.Path.{_≡_, refl, _∙_}
 use native.Mathlib.Omega.{arith}
 use borrow.Author.Needs.{needs}
 use lib.ListN.{length, take}

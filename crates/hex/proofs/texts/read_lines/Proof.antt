@@ -1,7 +1,7 @@
 -- `read_lines` meets its contract. The invariant of its loop: reading the text comes to reading what is left of it, and the cells that
 -- are not free were counted. The measure is how much is left.
 use Prim.Native.Nat.{_+_, _-_, _<_, _≤_}
-use mathlib.Core.Path.{_≡_, refl, sym, ap, _∙_}
+use mathlib.Core.Path.{_≡_, refl, ap, _∙_}
 use mathlib.Core.Bool.{false}
 use native.Mathlib.Omega.{arith}
 use borrow.Author.Needs.{needs}
