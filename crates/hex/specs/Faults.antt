@@ -44,6 +44,7 @@ unfoldable pub lawful : ℕ → ℕ → ℕ → Bool
 lawful kind address count =
     cond (eqb kind dataKind) (ltb 0 count) (cond (eqb kind endKind) (eqb count 0 && eqb address 0) true)
 
+-- a line in form, to which the checksum does not belong
 unfoldable pub inForm : Line → Bool
 inForm line =
     let signs = line .signs in
@@ -57,6 +58,7 @@ pub record Memory : Type 0 where
 abbrev pub memory : List ℕ → Bool → Memory
 memory cells closed = record { cells = cells; closed = closed }
 
+-- no byte yet: more than any byte
 abbrev pub notYet : ℕ
 notYet = 256
 

@@ -5,6 +5,7 @@ use mathlib.Core.List.{List, [], _∷_, _++_}
 use lib.ListN.{getD}
 use lib.Dec.{ltb, leb}
 
+-- the signs beside digits
 abbrev pub lineFeed : ℕ
 lineFeed = 10
 
@@ -14,7 +15,7 @@ carriageReturn = 13
 abbrev pub colon : ℕ
 colon = 58
 
--- the sign of a digit from 0 to 15, in capitals
+-- the sign of a digit from 0 to 15: 48 is 0, and 65 the capital A
 unfoldable pub digit : ℕ → ℕ
 digit d = cond (ltb d 10) (48 + d) (55 + d)
 
@@ -22,10 +23,11 @@ digit d = cond (ltb d 10) (48 + d) (55 + d)
 abbrev pub noDigit : ℕ
 noDigit = 131072
 
+-- from one sign up to another, both included
 abbrev pub within : ℕ → ℕ → ℕ → Bool
 within low high sign = leb low sign && leb sign high
 
--- what a sign counts as a digit, in either letter case
+-- what a sign counts as a digit: 0 to 9, and A to F in either letter case
 unfoldable pub valueOf : ℕ → ℕ
 valueOf sign =
     cond (within 48 57 sign) (sign - 48) (cond (within 65 70 sign) (sign - 55) (cond (within 97 102 sign) (sign - 87) noDigit))
