@@ -1,12 +1,13 @@
-/* The doors for C of the turn counter: a 32-bit count kept in an EEPROM image by the scheme of AN1449, as documents 01 and 02 set
-   it down. The archive is liblyre.a.
+/* The doors for C of the turn counter, a 32-bit count kept in an EEPROM image by the scheme of AN1449, and of Intel HEX, by which an
+   image comes and goes as text; as documents 01 and 02 set them down. The archive is liblyre.a.
 
    What a caller owes:
    - the archive holds x86-64 code, called by the System V convention: the stack is aligned to 16 bytes at the call, as a C
      compiler does without being asked;
-   - image points to n bytes and lives to lives_n numbers, neither of them null, even where a length is 0; lives is aligned as
-     uint32_t asks;
-   - the two buffers do not overlap, and nobody else uses them during a call.
+   - image points to n bytes, lives to lives_n numbers, and text to room or length bytes, none of them null, even where a length
+     is 0; lives is aligned as uint32_t asks;
+   - the two buffers of a call do not overlap, and nobody else uses them meanwhile;
+   - a stack of 16 KB, of which lyre_hex_read takes the most, nearly 10.
    Every length, place and content is allowed besides: what is not good is refused with a number. No function of the C library
    is needed, no memory is asked for, and nothing is kept between calls.
 
@@ -71,15 +72,15 @@ typedef struct {
 
 /* What the two doors of Intel HEX answer. Their codes are their own:
     0  good
-    1  a line is malformed: no colon first, a character that is no digit, a count of digits that does not fit, a record of type 00
-       without data or of type 01 with data or an address other than 0, any line after the end record, or a line without its end
+    1  a line is malformed: no colon first, a character that is no digit, not two digits for each of count + 5 bytes, a record of type
+       00 without data or of type 01 with data or an address other than 0, any line after the end record, or a line without its end
     2  a line's checksum is wrong
     3  a record of a type other than 00 and 01
     4  an address at or past n
     5  an address that was there before, even with the same byte
     6  an address below n is missing, or the end record is
     7  n is outside 41..4096
-    8  room is less than the text needs, which is 2 n + 12 times the number of records + 12
+    8  room is less than the text needs, which is 2 * n + 12 * ((n + 15) / 16) + 12, at most 11276
    7 and 8 are tested first, then line by line 1 to 5, and 6 last. A refusal changes neither text nor image. */
 typedef struct {
     uint32_t code;

@@ -63,7 +63,7 @@ fn say_read(name: &[u8], text: Text) {
     say_into(name, text, SIZE_A);
 }
 
-// "Either letter case, line ends LF or CR LF", here in the end record.
+// Small digits, and a carriage return, here in the end record.
 fn taken(text: Text) {
     say_read(b"P2 as written, read", text);
     let lower = change(change(text, 375, b'f'), 376, b'f');

@@ -16,7 +16,7 @@ bytesOf (sign then signs) = code sign ∷ bytesOf signs
 -- the words of each refusal, and the line's end
 unfoldable pub wordsOf : ℕ → List ℕ
 wordsOf refusal =
-    cond (eqb refusal 1) (bytesOf "is not in form: a record that is malformed, stands behind the end record or lacks its line end\n")
+    cond (eqb refusal 1) (bytesOf "not in form, behind the end record, or without its line end\n")
     (cond (eqb refusal 2) (bytesOf "the checksum is wrong\n")
     (cond (eqb refusal 3) (bytesOf "a record type other than 00 and 01\n")
     (cond (eqb refusal 4) (bytesOf "an address at or past the image's end\n")
@@ -34,7 +34,7 @@ refusalOf a = cond (eqb (a .code) 0) [] (cond (eqb (a .code) 7) (wordsOf 7) (pla
 
 -- how long the words are at most, and the place before them
 abbrev pub wordsLongest : ℕ
-wordsLongest = 95
+wordsLongest = 60
 
 abbrev pub placeLongest : ℕ
 placeLongest = 27

@@ -39,8 +39,8 @@ fn argument() -> usize
 }
 
 // A text that is read into 4096 bytes or fewer has at most 61453 bytes: 15 for each byte, which has a record of its own that ends with
-// CR LF, and 13 for the end record. So the first line at fault starts by there, and one that runs past byte 65536 is too long for a
-// record, whole or cut: the rest of a longer text changes no answer, and is not read.
+// CR LF, and 13 for the end record. So the rest of a text of more than 65536 changes no answer (a theorem of hex, `cut-reads`), and is
+// not read.
 fn main() {
     let n = argument();
     let mut text = io::large_buffer();

@@ -6,7 +6,7 @@ ghost use Rattle.text.specs.Text.{Wrote};
 ghost use Rattle.fromhex.specs.Refusals.{wordsOf, placeOf, refusalOf, wordsLongest, placeLongest, longest};
 
 // How long the line is at most.
-pub(crate) const LONGEST: usize = 122;
+pub(crate) const LONGEST: usize = 87;
 
 // Writes the words of a refusal and the line's end, from an index on, and answers the index past them.
 fn write_words(code: u32, text: &mut [u8], at: usize) -> usize
@@ -15,7 +15,7 @@ fn write_words(code: u32, text: &mut [u8], at: usize) -> usize
 {
     if code == 1 {
         return text::write_bytes(
-            b"is not in form: a record that is malformed, stands behind the end record or lacks its line end\n",
+            b"not in form, behind the end record, or without its line end\n",
             text,
             at,
         );

@@ -22,7 +22,7 @@ use Rattle.hex.proofs.RecordLaws.{Bytes, bytes-cons}
 -- ---- a line with no fault
 
 -- a test that would give a code, and what comes after it
-no-code : (b : Bool) (code rest : ℕ) → cond b (suc code) rest ≡ 0 → (b ≡ false) × (rest ≡ 0)
+pub no-code : (b : Bool) (code rest : ℕ) → cond b (suc code) rest ≡ 0 → (b ≡ false) × (rest ≡ 0)
 no-code true code rest none = absurd (omega arith)
 no-code false code rest none = (refl, none)
 

@@ -92,6 +92,14 @@ module _ {text before cells : List ℕ} {at done : ℕ} where
         rw (stored, is .filled none, sym count ∙ sym long)
         (free-sets cells (addressOf signs) (dataOf signs) each (rw long (known .inside)) (rw long (known .free)))
 
+  -- a line behind the end record is malformed
+  pub line-behind : (says : Answer) → Under text before cells at done true → at < length text → says ≡ answer 1 (done + 1) 0 → TextIs text before says cells
+  unfolding faultOf
+  line-behind says under inside same =
+      let (first, more, lines) = line-there text at inside in
+      refusal says same (λ none. absurd (omega (arith, none)))
+      (λ image. under .goes image ∙ rw lines (fault-first image cells done true first more refl (λ none. absurd (omega (arith, none)))))
+
   -- the text ends without its end record
   pub not-closed : (says : Answer) → Under text before cells at done false → length text ≤ at → says ≡ answer 6 done 0 → TextIs text before says cells
   unfolding readLines atEnd
@@ -101,13 +109,10 @@ module _ {text before cells : List ℕ} {at done : ℕ} where
   pub closed-well : (says : Answer) (filled : ℕ) → Under text before cells at done true → filled + free cells ≡ length cells
       → says ≡ cond (ltb at (length text)) (answer 1 (done + 1) 0) (cond (eqb filled (length cells)) (answer 0 0 0) (answer 6 done 0))
       → TextIs text before says cells
-  unfolding faultOf readLines atEnd
+  unfolding readLines atEnd
   closed-well says filled under counted same =
       choose (ltb at (length text))
-      (λ more.
-      let (first, others, lines) = line-there text at (ltb-true at (length text) more) in
-      refusal says (rw more at same) (λ none. absurd (omega (arith, none)))
-      (λ image. under .goes image ∙ rw lines (fault-first image cells done true first others refl (λ none. absurd (omega (arith, none))))))
+      (λ more. line-behind says under (ltb-true at (length text) more) (rw more at same))
       (λ none.
       let past = over text at (ltb-false at (length text) none) in
       choose (eqb filled (length cells))

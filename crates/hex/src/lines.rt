@@ -192,7 +192,8 @@ fn other_fault(sum: usize) -> u32
     3
 }
 
-// What any record in form is at fault for: 1 for one that is not lawful, 0 for nothing. Most are data records.
+// What any record is at fault for whose signs are a colon and bytes: 1 for one that is not lawful, 0 for nothing. Most are data
+// records. An end record that is lawful has no data, so `twice` is false of it; the promise is for any.
 fn fault_of(sum: usize, kind: usize, address: usize, count: usize, size: usize, twice: bool) -> u32
     requires { ⌜ (address < 4294967296) × (count < 256) ⌝ }
     ensures { λ r. ⌜ r ≡ verdict sum kind address count size twice ⌝ }
