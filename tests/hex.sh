@@ -122,6 +122,12 @@ srec_cat $kept/refused-default.hex -intel -o "$work/text" -intel -address-length
 reads "$work/text" $example
 srec_cat $kept/refused-start.hex -intel -o "$work/text" -intel -address-length=2 -disable=exec-start-address
 reads "$work/text" $example
+srec_cat $example -binary -offset 0x8000000 -o "$work/high" -intel
+srec_cat "$work/high" -intel -offset -0x8000000 -o "$work/text" -intel -address-length=2
+reads "$work/text" $example
+srec_cat $example -binary -fill 0x55 129 256 -o "$work/long" -intel
+srec_cat "$work/long" -intel -crop 0 129 -fill 0xFF 0 129 -o "$work/text" -intel -address-length=2
+reads "$work/text" $example
 
 # both cases and both line ends in one text
 sed '1~2s/F/f/; 1~3s/$/\r/' $kept/srec_cat.hex >"$work/text"
