@@ -45,7 +45,7 @@ module _ (cells signs : List ℕ) (fine : Faultless cells signs) (a : ℕ) where
   long = length-bytes signs 9 (countOf signs)
 
   -- one that it does not have stays
-  stays : has a signs ≡ false → getD (sets cells (addressOf signs) (dataOf signs)) a 0 ≡ getD cells a 0
+  pub stays : has a signs ≡ false → getD (sets cells (addressOf signs) (dataOf signs)) a 0 ≡ getD cells a 0
   stays out =
       sets-other (dataOf signs) cells (addressOf signs) a
       (λ past. omega (arith, long, ltb-false a (addressOf signs + countOf signs) (rw (le-leb (addressOf signs) a past) at out)))
@@ -62,7 +62,7 @@ module _ (cells signs : List ℕ) (fine : Faultless cells signs) (a : ℕ) where
     place = omega (arith, from)
 
     -- one that it has was free
-    was-free : notYet ≤ getD cells a 0
+    pub was-free : notYet ≤ getD cells a 0
     was-free =
         let near : a - addressOf signs < countOf signs = omega (arith, from, until) in
         rw (getD-take (countOf signs) (drop (addressOf signs) cells) (a - addressOf signs) 0 near, getD-drop (addressOf signs) cells, place)
@@ -70,25 +70,25 @@ module _ (cells signs : List ℕ) (fine : Faultless cells signs) (a : ℕ) where
         (rw (length-take, length-drop) (omega (arith, from, until, fine .inside))))
 
     -- gets its byte
-    is-stored : getD (sets cells (addressOf signs) (dataOf signs)) a 0 ≡ byteFor a signs
+    pub is-stored : getD (sets cells (addressOf signs) (dataOf signs)) a 0 ≡ byteFor a signs
     is-stored =
         let near : a - addressOf signs < length (dataOf signs) = omega (arith, from, until, long) in
         rw place at (sets-same (dataOf signs) cells (addressOf signs) (a - addressOf signs) (omega (arith, long, fine .inside)) near)
 
     -- and is taken
-    is-byte : byteFor a signs < notYet
+    pub is-byte : byteFor a signs < notYet
     is-byte =
         data-bytes signs 9 (countOf signs) (fine .digits) (omega arith) (omega (arith, fine .whole)) (a - addressOf signs)
         (omega (arith, from, until, long))
 
 -- what holds of a line and of each after it
-each : (P : Line → Type 0) (first : Line) (lines : List Line) → P first → ((k : ℕ) → k < length lines → P (getD lines k (line [] false)))
+pub each : (P : Line → Type 0) (first : Line) (lines : List Line) → P first → ((k : ℕ) → k < length lines → P (getD lines k (line [] false)))
     → (k : ℕ) → k < length (first ∷ lines) → P (getD (first ∷ lines) k (line [] false))
 each P first lines here later zero inside = here
 each P first lines here later (suc k) inside = later k (omega arith)
 
 -- the byte of a line is left in an image
-abbrev Left : List ℕ → ℕ → Line → Type 0
+abbrev pub Left : List ℕ → ℕ → Line → Type 0
 Left left a line = has a (line .signs) ≡ true → getD left a 0 ≡ byteFor a (line .signs)
 
 -- a free cell will be covered once and a taken one stays; the bytes of each line are left in the image

@@ -49,7 +49,7 @@ none-taken (suc k) zero = refl
 none-taken (suc k) (suc n) = none-taken k n
 
 -- an image of bytes has a byte at every address
-all-taken : (cells : List ℕ) → Bytes cells → allTaken cells ≡ true
+pub all-taken : (cells : List ℕ) → Bytes cells → allTaken cells ≡ true
 unfolding allTaken
 all-taken [] all = refl
 all-taken (cell ∷ cells) all = rw (lt-ltb cell 256 (all 0 (omega arith))) (all-taken cells (λ k inside. all (suc k) (omega arith)))
