@@ -15,7 +15,7 @@ typedef enum { writing, reading, refusing } task;
 enum { shown, held };
 
 /* The rows, and which of them are held. That a byte of a long text costs no more than one of a short text is seen from one N to
-   the next. Each instruction is a signal, so the longest text, of 4096 records of 1, is left out. */
+   the next. */
 static const struct {
     task task;
     size_t n, each; /* bytes of the image, and of a record */
@@ -30,6 +30,7 @@ static const struct {
     {reading, 129, 1, shown},
     {reading, 256, 1, shown},
     {reading, 1024, 1, shown},
+    {reading, 4096, 1, held},
     {reading, 64, 16, shown},
     {reading, 129, 16, held},
     {reading, 256, 16, held},
