@@ -30,7 +30,7 @@ static const struct {
     {reading, 129, 1, shown},
     {reading, 256, 1, shown},
     {reading, 1024, 1, shown},
-    {reading, 4096, 1, held},
+    {reading, 4096, 1, shown},
     {reading, 64, 16, shown},
     {reading, 129, 16, held},
     {reading, 256, 16, held},
