@@ -5,8 +5,8 @@ use mathlib.Core.Path.{_≡_, refl, sym, _∙_}
 use mathlib.Core.Bool.{Bool, true, false, cond, not, _&&_, and-false}
 use mathlib.Core.List.{List}
 use native.Mathlib.Omega.{arith}
-use borrow.Author.Tests.{eqb-true, eqb-false, ltb-true, ltb-false, leb-true}
-use lib.Dec.{eqb, ltb, leb}
+use borrow.Author.Tests.{eqb-true, eqb-false, ltb-true, ltb-false}
+use lib.Dec.{eqb, ltb}
 use lib.ListN.{length, take, getD, replicate, length-take}
 use lib.Seq.{sets, getD-take}
 use Rattle.hex.specs.declared.Answer.{Answer}
@@ -17,10 +17,11 @@ use Rattle.hex.specs.Lines.{linesOf}
 use Rattle.hex.specs.Faults.{lawful, memory, notYet}
 use Rattle.hex.specs.Doors.{sized, readLines, readOf}
 use Rattle.hex.specs.Inside.{endAt, countAt, addressAt, kindAt, dataAt, nextAt, formedAt, verdict, faultAt, LineIs, TextIs}
-use Rattle.hex.proofs.LineLaws.{choose, both}
+use Rattle.hex.proofs.LineLaws.{choose}
 use Rattle.hex.proofs.Forms.{no-head}
 use Rattle.hex.proofs.Judging.{malformed-line}
 use Rattle.hex.proofs.ReadLaws.{no-code}
+use Rattle.hex.proofs.Standard.{sized-bounds}
 use Rattle.hex.proofs.Taken.{free, blank-free}
 use Rattle.hex.proofs.TextLaws.{Under, begin, tested, line-refused, line-taken, line-filled, line-behind}
 
@@ -142,7 +143,7 @@ unfolding readOf
 cut-reads text image long =
     choose (sized (length image))
     (λ fits.
-    let size = leb-true (length image) 4096 (both (leb 41 (length image)) (leb (length image) 4096) fits .1) in
+    let size = sized-bounds (length image) fits .1 in
     let all = blank-free (length image) in
     rw fits (lines-same (take 65536 text) text 65536 (λ i inside. getD-take 65536 text i 0 inside) (omega (arith, length-take 65536 text)) long image
     (replicate (length image) notYet) (suc (length image)) (omega (arith, all)) (omega (arith, all, size)) (begin _ _) (begin _ _)))

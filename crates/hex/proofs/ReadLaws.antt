@@ -16,6 +16,7 @@ use Rattle.hex.specs.Faults.{countOf, addressOf, kindOf, dataOf, sumOf, 
 use Rattle.hex.specs.Faults.{Memory, notYet, someTaken, allTaken, faultOf, after}
 use Rattle.hex.specs.Doors.{sized, atEnd, readLines, blank, readOf}
 use Rattle.hex.proofs.LineLaws.{choose, both}
+use Rattle.hex.proofs.Standard.{sized-bounds}
 use Rattle.hex.proofs.Bytes.{length-bytes}
 use Rattle.hex.proofs.RecordLaws.{Bytes, bytes-cons}
 
@@ -105,8 +106,8 @@ module _ (P : List Line → Memory → List ℕ → Type 0) (end : (m : Memory) 
   read-text text before fine =
       choose (sized (length before))
       (λ t.
-      let size = both (leb 41 (length before)) _ t in
-      rw t (leb-true _ _ (size .0), leb-true _ _ (size .1), read-lines before 0 (linesOf text) (blank (length before)) (rw t at fine)))
+      let (least, most) = sized-bounds (length before) t in
+      rw t (least, most, read-lines before 0 (linesOf text) (blank (length before)) (rw t at fine)))
       (λ f. absurd (omega (arith, rw f at fine)))
 
 -- where every address has its byte the cells are bytes

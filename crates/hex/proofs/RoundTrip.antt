@@ -13,7 +13,7 @@ use Rattle.hex.specs.Signs.{lineFeed}
 use Rattle.hex.specs.Records.{recordOf, lineOf, dataKind, endKind, dataLines, recordsIn, standardText}
 use Rattle.hex.specs.Lines.{line, linesOf}
 use Rattle.hex.specs.Faults.{lawful, memory, notYet, someTaken, allTaken, faultOf, after}
-use Rattle.hex.specs.Doors.{Outcome, good, writeOf, atEnd, readLines, readOf}
+use Rattle.hex.specs.Doors.{Outcome, good, writeOf, atEnd, readLines, readOf, refused, sized}
 use Rattle.hex.proofs.LineLaws.{line-feed, digits-plain}
 use Rattle.hex.proofs.ReadLaws.{read-bytes}
 use Rattle.hex.proofs.RecordLaws.{Bytes, length-record, count-record, address-record, kind-record, data-record}
@@ -139,6 +139,11 @@ pub write-good : (image text : List ℕ) → 41 ≤ length image → length imag
 unfolding writeOf
 write-good image text least most room =
     rw (le-leb 41 (length image), le-leb (length image) 4096, le-ltb (length text) (length (standardText image)))
+
+-- and one of another length is refused
+pub write-refused : (image text : List ℕ) → sized (length image) ≡ false → writeOf image text ≡ refused 7 0 text
+unfolding writeOf
+write-refused image text wrong = rw wrong
 
 -- an image that was read is written as its standard text, and that is read as the image again
 pub written-read : (text before image : List ℕ) → readOf text before ≡ good 0 image

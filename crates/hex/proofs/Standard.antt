@@ -1,16 +1,25 @@
--- The standard text: a record in three parts, what is left of a text from an address on, and how long it is.
+-- The standard text: the images that have one, a record in three parts, what is left of a text from an address on, and how long it is.
 use Prim.Native.Nat.{ℕ, suc, _+_, _*_, _-_, _/_, _%_, _<_, _≤_}
 use mathlib.Core.Path.{_≡_, refl, sym, ap, _∙_}
 use mathlib.Core.List.{List, [], _∷_, _++_, append-assoc}
+use mathlib.Core.Bool.{true}
 use native.Mathlib.Omega.{arith}
+use borrow.Author.Tests.{leb-true}
+use lib.Dec.{leb}
 use lib.ListN.{length, take, drop, length-append, length-take, length-drop}
 use lib.Seq.{take-all}
 use Rattle.text.specs.Text.{Wrote}
 use Rattle.text.proofs.Writing.{wrote-none, wrote-on}
 use Rattle.hex.specs.Signs.{lineFeed, twoDigits, inDigits, total}
 use Rattle.hex.specs.Records.{bodyOf, checksum, recordOf, lineOf, dataKind, endKind, dataLines, standardText}
+use Rattle.hex.specs.Doors.{sized}
 use Rattle.hex.specs.Inside.{headOf, tailOf}
+use Rattle.hex.proofs.LineLaws.{both}
 use Rattle.hex.proofs.Digits.{length-digits, digits-append}
+
+-- the lengths that an image may have
+pub sized-bounds : (n : ℕ) → sized n ≡ true → (41 ≤ n) × (n ≤ 4096)
+sized-bounds n right = let (least, most) = both (leb 41 n) (leb n 4096) right in (leb-true 41 n least, leb-true n 4096 most)
 
 -- three numbers and more, added up modulo 256 one after another
 added : (a b : ℕ) → (a % 256 + b) % 256 ≡ (a + b) % 256

@@ -44,7 +44,7 @@ unfoldable pub lawful : ℕ → ℕ → ℕ → Bool
 lawful kind address count =
     cond (eqb kind dataKind) (ltb 0 count) (cond (eqb kind endKind) (eqb count 0 && eqb address 0) true)
 
--- a line in form, to which the checksum does not belong
+-- a line in form, whether or not its checksum is right
 unfoldable pub inForm : Line → Bool
 inForm line =
     let signs = line .signs in

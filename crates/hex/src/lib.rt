@@ -19,7 +19,7 @@ pub struct Answer {
     pub length: usize,
 }
 
-// The answer of a refusal, or of a text that was read.
+// The answer of a refusal.
 fn refused(code: u32, line: usize) -> Answer
     ensures { λ r. ⌜ r ≡ answer code line 0 ⌝ }
 {

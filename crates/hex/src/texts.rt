@@ -32,7 +32,11 @@ fn closing(more: bool, done: usize, all: bool) -> Answer
         return refused(1, done + 1);
     }
     if all {
-        return refused(0, 0);
+        return Answer {
+            code: 0,
+            line: 0,
+            length: 0,
+        };
     }
     refused(6, done)
 }

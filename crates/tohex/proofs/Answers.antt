@@ -6,15 +6,14 @@ use mathlib.Core.Bool.{true, false, not}
 use mathlib.Core.List.{List}
 use native.Mathlib.Nat.{zero-add}
 use native.Mathlib.Omega.{arith}
-use borrow.Author.Tests.{leb-true}
-use lib.Dec.{leb}
 use lib.ListN.{length}
 use Rattle.text.specs.Text.{Wrote}
 use Rattle.hex.specs.declared.Answer.{Answer}
 use Rattle.hex.specs.Records.{standardText}
-use Rattle.hex.specs.Doors.{Outcome, outcome, refused, sized, writeOf}
-use Rattle.hex.proofs.LineLaws.{choose, both}
-use Rattle.hex.proofs.RoundTrip.{length-standard, write-good}
+use Rattle.hex.specs.Doors.{Outcome, outcome, sized, writeOf}
+use Rattle.hex.proofs.LineLaws.{choose}
+use Rattle.hex.proofs.Standard.{sized-bounds}
+use Rattle.hex.proofs.RoundTrip.{length-standard, write-good, write-refused}
 use Rattle.tohex.specs.Told.{refusal, toldOf, longest}
 
 module _ (image text : List ℕ) (room : longest ≤ length text) where
@@ -22,14 +21,8 @@ module _ (image text : List ℕ) (room : longest ≤ length text) where
   written : sized (length image) ≡ true → Wrote text 0 (standardText image) (writeOf image text .answer .length) (writeOf image text .left)
       × (writeOf image text .answer .code ≡ 0)
   written right =
-      let least : 41 ≤ length image = leb-true 41 (length image) (both _ (leb (length image) 4096) right .0) in
-      let most : length image ≤ 4096 = leb-true (length image) 4096 (both (leb 41 (length image)) _ right .1) in
+      let (least, most) = sized-bounds (length image) right in
       rw (write-good image text least most (omega (arith, length-standard image))) (record { ends = rw zero-add; holds = rw zero-add }, refl)
-
-  -- another is refused
-  unwritten : sized (length image) ≡ false → writeOf image text ≡ refused 7 0 text
-  unfolding writeOf
-  unwritten wrong = rw wrong
 
   module _ {answer : Answer} {after : List ℕ} (same : outcome answer after ≡ writeOf image text) where
     code-same : answer .code ≡ writeOf image text .answer .code
@@ -39,10 +32,10 @@ module _ (image text : List ℕ) (room : longest ≤ length text) where
     unfolding toldOf
     taken zero = choose (sized (length image))
         (λ right. rw (right, ap (λ (o : Outcome). o .answer .length) same, ap (λ (o : Outcome). o .left) same) (refl, written right .0))
-        (λ wrong. absurd (omega (arith, zero, code-same, ap (λ (o : Outcome). o .answer .code) (unwritten wrong))))
+        (λ wrong. absurd (omega (arith, zero, code-same, ap (λ (o : Outcome). o .answer .code) (write-refused image text wrong))))
 
     pub unfit : (answer .code ≡ 0 → ⊥) → (sized (length image) ≡ false) × (after ≡ text) × (toldOf image ≡ refusal)
     unfolding toldOf
     unfit other = choose (sized (length image))
         (λ right. absurd (other (code-same ∙ written right .1)))
-        (λ wrong. (wrong, ap (λ (o : Outcome). o .left) (same ∙ unwritten wrong), rw wrong))
+        (λ wrong. (wrong, ap (λ (o : Outcome). o .left) (same ∙ write-refused image text wrong), rw wrong))

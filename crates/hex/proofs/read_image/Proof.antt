@@ -3,12 +3,11 @@ use Prim.Native.Nat.{_≤_}
 use mathlib.Core.Path.{_≡_, sym, ap, _∙_}
 use mathlib.Core.Bool.{true}
 use borrow.Author.Needs.{needs}
-use borrow.Author.Tests.{not-true, not-false, leb-true}
-use lib.Dec.{leb}
+use borrow.Author.Tests.{not-true, not-false}
 use lib.ListN.{length, length-replicate}
 use Rattle.hex.specs.Faults.{notYet}
 use Rattle.hex.specs.Doors.{readOf, sized}
-use Rattle.hex.proofs.LineLaws.{both}
+use Rattle.hex.proofs.Standard.{sized-bounds}
 use Rattle.hex.proofs.Taken.{blank-front}
 use Rattle.hex.proofs.read_image.Statement.{statement}
 use Rattle.hex.proofs.read_image.Tie as tie
@@ -18,7 +17,7 @@ right : (c : tie.Else1) → sized (length (c .before .before .before .before .ar
 right c = sym (c .before .is-sized .ensures) ∙ not-false (c .before .is-sized .result) (c .if1 .left)
 
 few : (c : tie.Else1) → length (c .before .before .before .before .args .image .now) ≤ 4096
-few c = let n = length (c .before .before .before .before .args .image .now) in leb-true n 4096 (both (leb 41 n) (leb n 4096) (right c) .1)
+few c = sized-bounds _ (right c) .1
 
 returns : tie.Need-returns
 unfolding readOf

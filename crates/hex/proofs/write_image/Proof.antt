@@ -5,12 +5,11 @@ use mathlib.Core.Bool.{true}
 use native.Mathlib.Nat.{zero-add}
 use native.Mathlib.Omega.{arith}
 use borrow.Author.Needs.{needs}
-use borrow.Author.Tests.{not-true, not-false, lt-ltb, le-ltb, leb-true}
-use lib.Dec.{leb}
+use borrow.Author.Tests.{not-true, not-false, lt-ltb, le-ltb}
 use lib.ListN.{length}
 use Rattle.hex.specs.Records.{standardText}
 use Rattle.hex.specs.Doors.{answer, outcome, writeOf, sized}
-use Rattle.hex.proofs.LineLaws.{both}
+use Rattle.hex.proofs.Standard.{sized-bounds}
 use Rattle.hex.proofs.RoundTrip.{length-standard}
 use Rattle.hex.proofs.write_image.Statement.{statement}
 use Rattle.hex.proofs.write_image.Tie as tie
@@ -20,7 +19,7 @@ right : (c : tie.Else1) → sized (length (c .before .before .before .before .ar
 right c = sym (c .before .is-sized .ensures) ∙ not-false (c .before .is-sized .result) (c .if1 .left)
 
 few : (c : tie.Else1) → length (c .before .before .before .before .args .image .now) ≤ 4096
-few c = let n = length (c .before .before .before .before .args .image .now) in leb-true n 4096 (both (leb 41 n) (leb n 4096) (right c) .1)
+few c = sized-bounds _ (right c) .1
 
 returns : tie.Need-returns
 unfolding writeOf
