@@ -9,7 +9,8 @@ use lib.Dec.{eqb}
 use lib.ListN.{length, length-append}
 use Rattle.hex.specs.declared.Answer.{Answer}
 use Rattle.hex.proofs.LineLaws.{choose}
-use Rattle.fromhex.specs.Refusals.{bytesOf, wordsOf, placeOf, refusalOf}
+use Rattle.text.specs.Text.{bytesOf}
+use Rattle.fromhex.specs.Refusals.{wordsOf, placeOf, refusalOf}
 
 -- the words of a refusal with no number of its own
 pub other-words : (code : ℕ) → (code ≡ 1 → ⊥) → (code ≡ 2 → ⊥) → (code ≡ 3 → ⊥) → (code ≡ 4 → ⊥) → (code ≡ 5 → ⊥) → (code ≡ 6 → ⊥)

@@ -1,17 +1,10 @@
 -- The line that `fromhex` says of a text that it refuses (document 02, P2).
 use Prim.Native.Nat.{ℕ, _+_}
-use Prim.Native.Char.{code}
-use Prim.Native.String.{String, [] as none, _∷_ as _then_}
 use mathlib.Core.Bool.{cond}
-use mathlib.Core.List.{List, [], _∷_, _++_}
+use mathlib.Core.List.{List, [], _++_}
 use lib.Dec.{eqb}
-use Rattle.text.specs.Text.{decimal}
+use Rattle.text.specs.Text.{decimal, bytesOf}
 use Rattle.hex.specs.declared.Answer.{Answer}
-
--- the bytes of a quoted text
-abbrev pub bytesOf : String → List ℕ
-bytesOf none = []
-bytesOf (sign then signs) = code sign ∷ bytesOf signs
 
 -- the words of each refusal, and the line's end
 unfoldable pub wordsOf : ℕ → List ℕ

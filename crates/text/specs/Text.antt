@@ -1,5 +1,7 @@
--- Texts of key=value lines (document 01, "Measured on the bench"), and what it is to write into a lent text.
+-- Texts of key=value lines (document 01, "Measured on the bench"), quoted ones, and what it is to write into a lent text.
 use Prim.Native.Nat.{ℕ, zero, suc, _+_, _/_, _%_}
+use Prim.Native.Char.{code}
+use Prim.Native.String.{String, [] as none, _∷_ as _then_}
 use mathlib.Core.Path.{_≡_}
 use mathlib.Core.Bool.{cond}
 use mathlib.Core.List.{List, [], _∷_, _++_}
@@ -37,6 +39,11 @@ signed (negsuc n) = minus ∷ decimal (suc n)
 -- the line key=value, with its line feed
 unfoldable pub line : List ℕ → List ℕ → List ℕ
 line key value = key ++ (equals ∷ []) ++ value ++ (lineFeed ∷ [])
+
+-- the bytes of a quoted text
+abbrev pub bytesOf : String → List ℕ
+bytesOf none = []
+bytesOf (sign then signs) = code sign ∷ bytesOf signs
 
 -- bytes were written into a lent text from an index on, up to the next: what stood before and past them is kept
 pub record Wrote (before : List ℕ) (at : ℕ) (bytes : List ℕ) (next : ℕ) (after : List ℕ) : Type 0 where

@@ -1,17 +1,11 @@
 -- What `tohex` tells of an image (document 02, P2): its standard text, or why there is none.
 use Prim.Native.Nat.{ℕ}
-use Prim.Native.Char.{code}
-use Prim.Native.String.{String, [] as none, _∷_ as _then_}
 use mathlib.Core.Bool.{cond}
-use mathlib.Core.List.{List, [], _∷_}
+use mathlib.Core.List.{List}
 use lib.ListN.{length}
+use Rattle.text.specs.Text.{bytesOf}
 use Rattle.hex.specs.Records.{standardText}
 use Rattle.hex.specs.Doors.{sized}
-
--- the bytes of a quoted text
-abbrev pub bytesOf : String → List ℕ
-bytesOf none = []
-bytesOf (sign then signs) = code sign ∷ bytesOf signs
 
 -- the line of refusal 7
 abbrev pub refusal : List ℕ
