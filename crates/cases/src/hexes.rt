@@ -80,7 +80,7 @@ fn malformed(text: Text) {
     say_read(b"P2 a line after the end, read", end_at(more, 379));
 }
 
-// The ninth record with a wrong checksum, and with other types and the checksum for each: "a 01 record with data" is malformed.
+// The ninth record with a wrong checksum, and with other types and the checksum for each; as an end record it is malformed.
 fn other_types(text: Text) {
     say_read(b"P2 checksum 77, read", change(text, 364, b'7'));
     let end = change(change(text, 360, b'1'), 364, b'7');
