@@ -145,7 +145,7 @@ static void write_count(size_t copy, uint32_t count)
 
 static uint8_t lost_byte(void)
 {
-    static const uint8_t some[] = {0x01, 0x00, 0x03, 0x05};
+    static const uint8_t some[] = {0x00, 0xFF, 0x01, 0x02};
     return chance(50) ? some[below(4)] : (uint8_t)(codes[below(16)] ^ (3u << below(7)));
 }
 

@@ -194,7 +194,7 @@ static void mended(void)
     say_held(0x81, 0x80, "P1 81, read");
     say_held(0x06, 0x06, "P1 06 06, read");
     say_held(0x06, 0x0F, "P1 06 0F, read");
-    say_held(0xFF, 0xFF, "P1 FF FF, read");
+    say_held(0x87, 0x87, "P1 87 87, read");
     say_held(0x81, 0x01, "P1 81 01, read");
     say_held(0x01, 0x81, "P1 01 81, read");
     say_held(0xCA, 0xB1, "P1 CA B1, read");
@@ -205,7 +205,7 @@ static void mended(void)
     hold(0xCA, 0xB1);
     image[1] = 0xFF;
     say_mended("P1 CA B1, mark gone, read");
-    opened_a();
+    near_the_end();
     for (int nibble = 0; nibble < 8; nibble++)
         image[cells1[nibble]] ^= (uint8_t)(1 << nibble);
     say_mended("P1 each bit, read");
@@ -323,6 +323,22 @@ static void missing_parts_and_sizes(void)
     say_text("P2 N 40, read", text_end, 40);
 }
 
+/* Document 02, P3. */
+static void erased(void)
+{
+    say_held(0xFF, 0x61, "P3 FF 61, read");
+    say_held(0x61, 0x00, "P3 61 00, read");
+    say_held(0xFF, 0xFF, "P3 FF FF, read");
+    say_held(0x00, 0x00, "P3 00 00, read");
+    say_held(0xFF, 0xE6, "P3 FF E6, read");
+    second_answer answer = open_it();
+    say("P3 FF E6, open", answer, 128, none);
+    hold(0xFF, 0x61);
+    lives[128] = 0;
+    answer = step_it();
+    say("P3 FF 61, cell 128 worn, step", answer, 3, 122);
+}
+
 int main(void)
 {
     bench_list();
@@ -335,5 +351,6 @@ int main(void)
     malformed_texts();
     faulty_records();
     missing_parts_and_sizes();
+    erased();
     return 0;
 }

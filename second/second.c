@@ -24,10 +24,18 @@ static int differing_bits(uint8_t one, uint8_t other)
     return number;
 }
 
+/* Document 02, P3: what a cell shows that was erased or has failed. */
+static bool is_erased(uint8_t byte)
+{
+    return byte == 0x00 || byte == 0xFF;
+}
+
 /* Clean and mended bytes are told alike. Codes differ in four bits or more, so no byte is this near to two of them and
    refusal 10 is never met. */
 static int read_byte(uint8_t byte)
 {
+    if (is_erased(byte))
+        return lost;
     for (int d = 0; d < 16; d++)
         if (differing_bits(byte, codes[d]) <= 1)
             return d;
@@ -222,7 +230,7 @@ static void count_mended(const uint8_t *image, size_t m, uint32_t *bit)
         uint8_t byte = image[address_in_map(image, m, pointer)];
         for (int d = 0; d < 16; d++)
             for (int wrong = 0; wrong < 8; wrong++)
-                if ((byte ^ (1 << wrong)) == codes[d])
+                if ((byte ^ (1 << wrong)) == codes[d] && !is_erased(byte))
                     bit[wrong] += 1;
     }
 }

@@ -58,7 +58,7 @@ static void readings(void)
     expect(answer.code == 6 && answer.lag == -4294967295, "0 over 4294967295 is no lag of 1");
 }
 
-/* Document 02, P1: bytes in the two cells of nibble 0, and how many cells were mended in each bit. */
+/* Bytes in the two cells of nibble 0, and how many cells were mended in each bit: document 02, P1, and behind it P3. */
 static void mended(void)
 {
     static const struct {
@@ -67,9 +67,12 @@ static void mended(void)
     } tries[] = {
         {0x80, 0x80, 0, 0, {0}},              {0x81, 0x80, 0, 0, {1}},
         {0x06, 0x06, 0, 1, {2}},              {0x06, 0x0F, 0, 1, {1, 0, 0, 1}},
-        {0xFF, 0xFF, 0, 10, {[7] = 2}},       {0x81, 0x01, 0, 0, {1}},
+        {0x87, 0x87, 0, 1, {[7] = 2}},        {0x81, 0x01, 0, 0, {1}},
         {0x01, 0x81, 0, 0, {1}},              {0xCA, 0xB1, 0, 5, {1, 1}},
         {0xB1, 0xCA, 6, 0, {0}},              {0x01, 0x01, 5, 0, {0}},
+        {0xFF, 0x61, 0, 2, {0}},              {0x61, 0x00, 0, 2, {0}},
+        {0xFF, 0xFF, 5, 0, {0}},              {0x00, 0xFF, 5, 0, {0}},
+        {0xFF, 0xE6, 0, 9, {0}},              {0xFF, 0x87, 0, 1, {[7] = 1}},
     };
     begin(27);
     for (size_t i = 0; i < sizeof tries / sizeof *tries; i++) {

@@ -3,6 +3,7 @@
 mod bench;
 mod chips;
 mod edges;
+mod erased;
 mod hexes;
 mod lines;
 mod mended;
@@ -13,4 +14,5 @@ fn main() {
     edges::cases();
     mended::cases();
     hexes::cases();
+    erased::cases();
 }

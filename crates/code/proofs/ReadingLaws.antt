@@ -1,15 +1,17 @@
--- The laws of readings (document 01, "Nibbles, bytes and Gray words"; document 02, P1).
+-- The laws of readings (document 01, "Nibbles, bytes and Gray words"; document 02, P1 and P3).
 --   tally               how many readings of a list are clean, mended and lost
---   tally-of-bytes      of the 256 bytes 16 are clean, 128 mended and 112 lost
+--   tally-of-bytes      of the 256 bytes 16 are clean, 126 mended and 114 lost
 --   no-twofold          no byte is one bit from two codes
 --   entry-at            the table holds at each byte its entry
 --   entry-reading       the entry of a byte stands for its reading
 --   entry-twofold       the entry of a byte tells whether it is one bit from two codes
 --   entry-bit           an entry names no bit past 7
+--   flipped             the code of d with a bit flipped
 --   mended-flips        a byte mended in bit i is the nibble's code with that bit flipped, and i is at most 7
 --   code-clean          the code of d reads clean d
 --   code-injective      two nibbles with one code are one
 --   lost-zero           a lost reading gives the nibble 0
+--   read-or-lent        a nibble as it is read, or another where it is lost
 --   nibble-round        the code of a word's nibble reads as that nibble
 --   nibble-kept         the code of a word's nibble is not lost
 --   nibble-unmended     the code of a word's nibble was mended in no bit
@@ -26,13 +28,13 @@ use lib.ListN.{getD}
 use Rattle.code.specs.declared.reading.Reading.{Reading}
 use Rattle.code.specs.declared.reading.Reading.the-variants.{Clean, Mended, Lost}
 use Rattle.code.specs.Codes.{codes, codeOf, distance}
-use Rattle.code.specs.Readings.{nearFrom, near, nearest, several, readingOf, twofold, isLost, nibbleRead}
+use Rattle.code.specs.Readings.{nearFrom, near, readingOf, twofold, isLost, nibbleRead}
 use Rattle.code.specs.Entries.{mendedEntry, lostEntry, entryFrom, entryOf, entries, readingAt, twofoldAt}
 use Rattle.code.specs.Mended.{mendedIn}
 use Rattle.code.specs.Nibbles.{nibbleOf}
 use Rattle.code.specs.Tabulate.{tabulate}
 use Rattle.code.proofs.TabulateLaws.{at, agree, alike}
-use Rattle.code.proofs.QuickLaws.{quickNear, by-near, quickReading, reading-quick}
+use Rattle.code.proofs.QuickLaws.{quickTwofold, quickReading, reading-quick, by-quick}
 use Rattle.code.proofs.NibbleLaws.{nibble-small}
 use borrow.Author.Tests.{lt-ltb}
 
@@ -45,41 +47,43 @@ tally (Clean d ∷ rs) = let n = tally rs in (n .0 + 1, n .1, n .2)
 tally (Mended d bit ∷ rs) = let n = tally rs in (n .0, n .1 + 1, n .2)
 tally (Lost ∷ rs) = let n = tally rs in (n .0, n .1, n .2 + 1)
 
--- of the 256 bytes 16 are clean, 128 mended and 112 lost
-pub tally-of-bytes : tally (tabulate readingOf 0 256) ≡ (16, 128, 112)
+-- of the 256 bytes 16 are clean, 126 mended and 114 lost
+pub tally-of-bytes : tally (tabulate readingOf 0 256) ≡ (16, 126, 114)
 unfolding codes onesIn
 tally-of-bytes = ap tally (alike readingOf quickReading 256 reading-quick)
+
+-- the code of d with a bit flipped
+abbrev pub flipped : ℕ → ℕ → ℕ
+flipped d bit = bitXor (codeOf d) (2 ^ bit)
 
 -- the byte that a reading is of: the code, or the code with the bit flipped; b where it is lost
 abbrev byteOf : ℕ → Reading → ℕ
 byteOf b (Clean d) = codeOf d
-byteOf b (Mended d bit) = bitXor (codeOf d) (2 ^ bit)
+byteOf b (Mended d bit) = flipped d bit
 byteOf b Lost = b
 
--- of the byte b, given the nibbles at no and at one bit: the reading that its entry stands for, whether its entry tells of two
--- codes one bit away, whether there are, and the byte that its reading is of
-abbrev told : ℕ → List ℕ → List ℕ → Reading × Bool × Bool × ℕ
-told b same near = let e = entryFrom b same near in (readingAt e, twofoldAt e, several near, byteOf b (nearest b same near))
+-- of the byte b, given whether it is one bit from two codes and its reading: the reading that its entry stands for, whether its
+-- entry tells of two codes, whether there are, and the byte that its reading is of
+abbrev told : ℕ → Bool → Reading → Reading × Bool × Bool × ℕ
+told b double r = let e = entryFrom double r in (readingAt e, twofoldAt e, double, byteOf b r)
 
 -- what these four should be
-abbrev due : ℕ → List ℕ → List ℕ → Reading × Bool × Bool × ℕ
-due b same near = (nearest b same near, false, false, b)
+abbrev due : ℕ → Bool → Reading → Reading × Bool × Bool × ℕ
+due b double r = (r, false, false, b)
 
 -- the test over the whole table
-table-right : (b : ℕ) → b < 256 → told b (near 0 b) (near 1 b) ≡ due b (near 0 b) (near 1 b)
+table-right : (b : ℕ) → b < 256 → told b (twofold b) (readingOf b) ≡ due b (twofold b) (readingOf b)
 unfolding codes codeOf onesIn trailingZeros
 table-right b h =
-    by-near (told b) b h ∙ agree (λ b. told b (quickNear 0 b) (quickNear 1 b)) (λ b. due b (quickNear 0 b) (quickNear 1 b)) 256 refl b h
-    ∙ sym (by-near (due b) b h)
+    by-quick (told b) b h ∙ agree (λ b. told b (quickTwofold b) (quickReading b)) (λ b. due b (quickTwofold b) (quickReading b)) 256 refl b h
+    ∙ sym (by-quick (due b) b h)
 
 -- a byte is the one that its reading is of
 byte-of : (b : ℕ) → b < 256 → byteOf b (readingOf b) ≡ b
-unfolding readingOf
 byte-of b h = ap (λ right. right .3) (table-right b h)
 
 -- no byte is one bit from two codes
 pub no-twofold : (b : ℕ) → b < 256 → twofold b ≡ false
-unfolding twofold
 no-twofold b h = ap (λ right. right .2) (table-right b h)
 
 -- ---- the table
@@ -91,7 +95,7 @@ entry-at = at entryOf 0 256
 
 -- the entry of a byte stands for its reading
 pub entry-reading : (b : ℕ) → b < 256 → readingAt (entryOf b) ≡ readingOf b
-unfolding readingOf entryOf
+unfolding entryOf
 entry-reading b h = ap (λ right. right .0) (table-right b h)
 
 -- the entry of a byte tells whether it is one bit from two codes
@@ -109,7 +113,7 @@ entry-bit e d bit same = go (ltb e mendedEntry) (ltb e lostEntry) same
     go false false same = absurd (true≢false cc)
 
 -- a byte mended in bit i is the nibble's code with that bit flipped, and i is at most 7
-pub mended-flips : (b : ℕ) → b < 256 → (d bit : ℕ) → readingOf b ≡ Mended d bit → (b ≡ bitXor (codeOf d) (2 ^ bit)) × (bit < 8)
+pub mended-flips : (b : ℕ) → b < 256 → (d bit : ℕ) → readingOf b ≡ Mended d bit → (b ≡ flipped d bit) × (bit < 8)
 mended-flips b h d bit same = (sym (byte-of b h) ∙ ap (byteOf b) same, entry-bit (entryOf b) d bit (entry-reading b h ∙ same))
 
 -- ---- codes and nibbles
@@ -145,6 +149,15 @@ unfolding isLost nibbleRead
 lost-zero (Clean d) h = absurd (true≢false cc)
 lost-zero (Mended d bit) h = absurd (true≢false cc)
 lost-zero Lost h = refl
+
+-- a nibble as it is read, or another where it is lost
+pub read-or-lent : (r : Reading) (other d : ℕ) → (isLost r ≡ false → nibbleRead r ≡ d) → (isLost r ≡ true → other ≡ d)
+    → cond (isLost r) other (nibbleRead r) ≡ d
+read-or-lent r other d read lent = go (isLost r) refl
+  where
+    go : (gone : Bool) → isLost r ≡ gone → cond (isLost r) other (nibbleRead r) ≡ d
+    go false e = rw e (read e)
+    go true e = rw e (lent e)
 
 -- a byte whose entry is a nibble is that nibble's code
 pub clean-code : (b : ℕ) → b < 256 → entryOf b < 16 → b ≡ codeOf (entryOf b)

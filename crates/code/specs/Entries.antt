@@ -1,13 +1,12 @@
 -- The table of readings: an entry is one number for what a byte reads as (document 01, "Nibbles, bytes and Gray words").
 use Prim.Native.Nat.{ℕ, _+_, _-_, _*_, _/_, _%_}
-use mathlib.Core.Bool.{Bool, cond}
-use mathlib.Core.List.{List, [], _∷_}
+use mathlib.Core.Bool.{Bool, true, false, cond}
+use mathlib.Core.List.{List}
 use lib.Dec.{ltb, eqb}
 use Rattle.code.specs.declared.reading.Reading.{Reading}
 use Rattle.code.specs.declared.reading.Reading.the-variants.{Clean, Mended, Lost}
 use Rattle.code.specs.Tabulate.{tabulate}
-use Rattle.code.specs.Codes.{codeOf, differsAt}
-use Rattle.code.specs.Readings.{near}
+use Rattle.code.specs.Readings.{readingOf, twofold}
 
 -- the first entry of a mended byte, the entry of a lost one, and that of a byte one bit from two codes
 abbrev pub mendedEntry : ℕ
@@ -19,17 +18,17 @@ lostEntry = 144
 abbrev pub twofoldEntry : ℕ
 twofoldEntry = 145
 
--- the entry of the byte b, given the nibbles whose code it is and those whose code is one bit away: the code of d has the
--- entry d, and a byte that differs from it in bit i alone has 8 * d + i, counted from the first entry of a mended byte
-abbrev pub entryFrom : ℕ → List ℕ → List ℕ → ℕ
-entryFrom b (d ∷ ds) es = d
-entryFrom b [] [] = lostEntry
-entryFrom b [] (d ∷ []) = mendedEntry + 8 * d + differsAt b (codeOf d)
-entryFrom b [] (d ∷ e ∷ es) = twofoldEntry
+-- the entry of a byte, given whether it is one bit from two codes and its reading: the code of d has the entry d, and a byte
+-- mended to d in bit i has 8 * d + i, counted from the first entry of a mended byte
+abbrev pub entryFrom : Bool → Reading → ℕ
+entryFrom true r = twofoldEntry
+entryFrom false (Clean d) = d
+entryFrom false (Mended d bit) = mendedEntry + 8 * d + bit
+entryFrom false Lost = lostEntry
 
 -- the entry of the byte b
 unfoldable pub entryOf : ℕ → ℕ
-entryOf b = entryFrom b (near 0 b) (near 1 b)
+entryOf b = entryFrom (twofold b) (readingOf b)
 
 -- the table: the entries of all bytes
 unfoldable pub entries : List ℕ

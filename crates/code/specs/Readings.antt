@@ -1,6 +1,6 @@
--- What a byte reads as: the nearest-code rule (document 01, "Nibbles, bytes and Gray words"; document 02, P1).
+-- What a byte reads as: the nearest-code rule (document 01, "Nibbles, bytes and Gray words"; document 02, P1 and P3).
 use Prim.Native.Nat.{ℕ, _+_}
-use mathlib.Core.Bool.{Bool, true, false}
+use mathlib.Core.Bool.{Bool, true, false, cond, _||_}
 use mathlib.Core.List.{List, [], _∷_}
 use lib.Dec.{eqb}
 use Rattle.code.specs.declared.reading.Reading.{Reading}
@@ -27,9 +27,14 @@ nearest b (d ∷ ds) ones = Clean d
 nearest b [] (d ∷ ds) = Mended d (differsAt b (codeOf d))
 nearest b [] [] = Lost
 
--- clean(d) when b is the code of d, mended(d) when it differs from the code of d in one bit, which is named too, else lost
+-- whether b is what an erased or failed cell shows (P3): 00 or FF
+abbrev pub erased : ℕ → Bool
+erased b = eqb b 0x00 || eqb b 0xFF
+
+-- lost when b is what an erased cell shows; else clean(d) when it is the code of d, mended(d) when it differs from the code of d
+-- in one bit, which is named too, else lost
 unfoldable pub readingOf : ℕ → Reading
-readingOf b = nearest b (near 0 b) (near 1 b)
+readingOf b = cond (erased b) Lost (nearest b (near 0 b) (near 1 b))
 
 abbrev pub several : List ℕ → Bool
 several [] = false

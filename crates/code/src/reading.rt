@@ -1,11 +1,11 @@
-// The readings of a byte (document 01, "Nibbles, bytes and Gray words"; document 02, P1).
+// The readings of a byte (document 01, "Nibbles, bytes and Gray words"; document 02, P1 and P3).
 ghost use mathlib.Core.Path.{_≡_};
 ghost use Rattle.code.specs.Readings.{readingOf, twofold, isLost, nibbleRead};
 ghost use Rattle.code.specs.Entries.{readingAt, twofoldAt};
 use super::table::entry_of;
 
 // What a byte reads as: a nibble's own code; a byte one bit from it, with that bit's number, 0 (lowest) to 7; or nothing that
-// can be told.
+// can be told, as 00 and FF, which erased cells show.
 pub enum Reading {
     Clean(u8),
     Mended(u8, u8),

@@ -1,6 +1,7 @@
 // The table of 256 entries, one for each byte, in which a byte's reading is looked up (document 01, "Nibbles, bytes and Gray
-// words"). A byte that is the code of d has the entry d, one that differs from the code of d in bit i alone has 16 + 8 * d + i,
-// one near no code has 144, and one that is one bit from two codes would have 145.
+// words"; document 02, P3). A byte that is the code of d has the entry d, one mended to d in bit i has 16 + 8 * d + i, a lost one
+// has 144, and one that is one bit from two codes would have 145. 00 and FF, which erased cells show, are lost, though each is
+// one bit from a code.
 ghost use mathlib.Core.Path.{_≡_};
 ghost use Prim.Native.Nat.{ℕ, _<_};
 ghost use lib.ListN.{getD};
@@ -8,7 +9,7 @@ ghost use Rattle.code.specs.Entries.{entryOf, entries};
 
 // The entries of the bytes 00 to FF.
 const TABLE: [u8; 256] = [
-    23,
+    144, // 00
     144,
     144,
     26,
@@ -263,7 +264,7 @@ const TABLE: [u8; 256] = [
     130,
     144,
     144,
-    143,
+    144, // FF
 ];
 
 // The table, laid once where many bytes are looked up.

@@ -1,4 +1,5 @@
 -- A chip that holds a count exactly, and what reading and storing make of it.
+--   read-weighed              where refusals 1 to 4 do not hold, an image reads as what its data come to
 --   Exact                     refusals 1 to 4 do not hold, and every slot's cell is its code of c
 --   exact-stored              after a store of c that is done
 --   exact-opened              after a first opening that is done, at 0
@@ -18,7 +19,7 @@ use Rattle.counter.specs.declared.verdict.Work.the-variants.{Done}
 use Rattle.counter.specs.declared.verdict.Verdict.the-variants.{Good}
 use Rattle.counter.specs.Layout.{Layout, slots}
 use Rattle.counter.specs.Map.{mapIn, marked, sound}
-use Rattle.counter.specs.Reading.{examine, verdictOf}
+use Rattle.counter.specs.Reading.{weigh, examine, verdictOf}
 use Rattle.counter.specs.Store.{slotCode, storeFrom, store}
 use Rattle.counter.specs.Opening.{firstOpening}
 use Rattle.counter.specs.Doors.{chipVerdict}
@@ -29,6 +30,11 @@ use Rattle.counter.proofs.Moves.{slot-there}
 use Rattle.counter.proofs.Stores.{store-laws}
 use Rattle.counter.proofs.Openings.{opening-laws, zero-code}
 use Rattle.counter.proofs.ReadBack.{weigh-exact}
+
+pub read-weighed : {layout : Layout} {p : Places} {s : Chip} → Ready layout p s → marked (mapIn layout p (s .cells)) ≡ true
+    → Sound (slots layout) p (pointers layout p s) → verdictOf layout p (s .cells) ≡ weigh layout (dataOf layout p s)
+unfolding verdictOf examine
+read-weighed {layout} {p} {s} ready marks sound = rw (ready .long, ready .good, marks, sound-test layout p (pointers layout p s) sound)
 
 pub record Exact (layout : Layout) (p : Places) (c : ℕ) (s : Chip) : Type 0 where
   pub ready : Ready layout p s
@@ -63,10 +69,8 @@ module _ {layout : Layout} {p : Places} {s : Chip} (ready : Ready layout p s) wh
 
 module _ {layout : Layout} {p : Places} {c : ℕ} {s : Chip} (exact : Exact layout p c s) where
   pub exact-reads : 1 ≤ layout .copies → c < 2 ^ 32 → verdictOf layout p (s .cells) ≡ Good c (pos 0)
-  unfolding verdictOf examine
   exact-reads one small =
-      rw (exact .ready .long, exact .ready .good, exact .marks, sound-test layout p (pointers layout p s) (exact .sound))
-      (weigh-exact layout {byte = dataOf layout p s} small (exact .held) one)
+      read-weighed (exact .ready) (exact .marks) (exact .sound) ∙ weigh-exact layout {byte = dataOf layout p s} small (exact .held) one
 
   pub exact-verdict : 1 ≤ layout .copies → c < 2 ^ 32 → chipVerdict layout p s ≡ Good c (pos 0)
   unfolding chipVerdict livesGood

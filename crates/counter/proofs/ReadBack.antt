@@ -1,27 +1,35 @@
--- Cells to turns: bytes that are the codes of a count read as that count, with lag 0.
---   count-read                the count of each copy
---   weigh-exact               what the bytes of all slots read as
-use Prim.Native.Nat.{ℕ, _+_, _-_, _*_, _%_, _^_, _≤_, _<_}
-use mathlib.Core.Path.{_≡_, ap, _∙_}
-use mathlib.Core.Bool.{false}
+-- Cells to turns: bytes that read as the nibbles of a count, lost ones aside, are read as that count, with lag 0.
+--   slot-code                 the code of a slot, by its nibble of the word
+--   Legible, weigh-legible    where of each nibble some copy is not lost
+--   weigh-exact               where all are the count's codes
+use Prim.Native.Nat.{ℕ, zero, suc, _+_, _-_, _*_, _%_, _^_, _≤_, _<_}
+use mathlib.Core.Path.{_≡_, refl, sym, ap, _∙_}
+use mathlib.Core.Logic.{_≢_}
+use mathlib.Core.Bool.{false, true≢false}
 use mathlib.Core.List.{List}
 use native.Mathlib.Omega.{arith}
 use lib.IntN.{pos, +ℤ-invr}
-use Rattle.code.specs.Readings.{readingOf, twofold, isLost, nibbleRead}
+use Rattle.code.specs.Readings.{readingOf, isLost, nibbleRead}
+use Rattle.code.specs.Codes.{codeOf}
 use Rattle.code.specs.Gray.{grayOf, countOf}
 use Rattle.code.specs.Nibbles.{nibbleOf, wordOf}
 use Rattle.code.proofs.GrayLaws.{gray-small, count-of-gray}
 use Rattle.code.proofs.NibbleLaws.{word-of-nibbles}
 use Rattle.code.proofs.CodeLaws.{code-small}
-use Rattle.code.proofs.ReadingLaws.{no-twofold, nibble-round, nibble-kept}
+use Rattle.code.proofs.ReadingLaws.{no-twofold, nibble-round, nibble-kept, read-or-lent}
 use Rattle.cells.specs.declared.row.Found.the-variants.{Nowhere}
 use Rattle.code.proofs.TabulateLaws.{alike}
 use Rattle.counter.specs.declared.verdict.Verdict.the-variants.{Good}
 use Rattle.counter.specs.Layout.{Layout, slots}
 use Rattle.counter.specs.Slots.{lowest}
 use Rattle.counter.specs.Store.{slotCode}
-use Rattle.counter.specs.Reading.{nibbleIn, countIn, close, decide, someTwofold, lostAt, weigh}
+use Rattle.counter.specs.Reading.{firstRead, nibbleIn, countIn, close, decide, someTwofold, lostAt, weigh}
 use Rattle.counter.proofs.RangeTests.{every-not, none-some, none-lowest}
+
+-- the code of a slot, by its nibble of the word
+pub slot-code : (c k : ℕ) → slotCode c k ≡ codeOf (nibbleOf (grayOf c) (k % 8))
+unfolding slotCode
+slot-code c k = refl
 
 slot-kept : (c k : ℕ) → isLost (readingOf (slotCode c k)) ≡ false
 unfolding slotCode
@@ -31,25 +39,47 @@ slot-round : (c k : ℕ) → nibbleRead (readingOf (slotCode c k)) ≡ nibbleOf 
 unfolding slotCode
 slot-round c k = nibble-round (grayOf c) (k % 8)
 
-slot-single : (c k : ℕ) → twofold (slotCode c k) ≡ false
+slot-small : (c k : ℕ) → slotCode c k < 256
 unfolding slotCode
-slot-single c k = no-twofold _ (code-small (nibbleOf (grayOf c) (k % 8)))
+slot-small c k = code-small (nibbleOf (grayOf c) (k % 8))
 
 decide-same : (c : ℕ) → decide c c ≡ Good c (pos 0)
 unfolding decide close
 decide-same c = rw (+ℤ-invr (pos c))
 
-module _ (layout : Layout) {c : ℕ} {byte : ℕ → ℕ} (small : c < 2 ^ 32) (exact : (k : ℕ) → k < slots layout → byte k ≡ slotCode c k) where
-  slot-in : (copy n : ℕ) → copy < layout .copies → n < 8 → 8 * copy + n < slots layout
-  slot-in copy n l m = omega arith
+-- every slot that is not lost reads as its nibble of c's word, and no nibble is lost in every copy
+pub record Legible (layout : Layout) (c : ℕ) (byte : ℕ → ℕ) : Type 0 where
+  pub bytes : (k : ℕ) → k < slots layout → byte k < 256
+  pub reads : (k : ℕ) → k < slots layout → isLost (readingOf (byte k)) ≡ false → nibbleRead (readingOf (byte k)) ≡ nibbleOf (grayOf c) (k % 8)
+  pub kept : (n : ℕ) → n < 8 → (copy : ℕ) × (copy < layout .copies) × (isLost (readingOf (byte (8 * copy + n))) ≡ false)
+
+module _ (layout : Layout) {c : ℕ} {byte : ℕ → ℕ} (small : c < 2 ^ 32) (legible : Legible layout c byte) where
+  -- nibble n of a copy that has one
+  own-read : (copy n : ℕ) → copy < layout .copies → n < 8 → isLost (readingOf (byte (8 * copy + n))) ≡ false
+      → nibbleRead (readingOf (byte (8 * copy + n))) ≡ nibbleOf (grayOf c) n
+  own-read copy n l m has =
+      let e : (8 * copy + n) % 8 ≡ n = omega arith in
+      legible .reads (8 * copy + n) (omega arith) has ∙ ap (nibbleOf (grayOf c)) e
+
+  -- of the lowest-numbered copy that has one, if a copy among those from `copy` on does
+  first-read : (left copy n other : ℕ) → copy + left ≤ layout .copies → n < 8 → copy ≤ other → other < copy + left
+      → isLost (readingOf (byte (8 * other + n))) ≡ false → firstRead left copy (λ k. readingOf (byte k)) n ≡ nibbleOf (grayOf c) n
+  unfolding firstRead
+  first-read zero copy n other l m from to has = absurd (omega arith)
+  first-read (suc left) copy n other l m from to has =
+      read-or-lent (readingOf (byte (8 * copy + n))) _ _ (own-read copy n (omega arith) m)
+      (λ gone.
+      let later : other ≢ copy = λ e. true≢false (sym gone ∙ rw e at has) in
+      first-read left (copy + 1) n other (omega arith) m (omega arith) (omega arith) has)
 
   nibble-read : (copy n : ℕ) → copy < layout .copies → n < 8 → nibbleIn layout (λ k. readingOf (byte k)) copy n ≡ nibbleOf (grayOf c) n
   unfolding nibbleIn
   nibble-read copy n l m =
-      let e : (8 * copy + n) % 8 ≡ n = omega arith in
-      rw (exact (8 * copy + n) (slot-in copy n l m), slot-kept) (slot-round c (8 * copy + n) ∙ ap (nibbleOf (grayOf c)) e)
+      let (other, to, has) = legible .kept n m in
+      read-or-lent (readingOf (byte (8 * copy + n))) _ _ (own-read copy n l m)
+      (λ gone. first-read (layout .copies) 0 n other (omega arith) m (omega arith) (omega arith) has)
 
-  pub count-read : (copy : ℕ) → copy < layout .copies → countIn layout (λ k. readingOf (byte k)) copy ≡ c
+  count-read : (copy : ℕ) → copy < layout .copies → countIn layout (λ k. readingOf (byte k)) copy ≡ c
   unfolding countIn
   count-read copy l =
       ap (λ (ns : List ℕ). countOf (wordOf ns)) (alike _ _ 8 (λ n m. nibble-read copy n l m))
@@ -57,17 +87,27 @@ module _ (layout : Layout) {c : ℕ} {byte : ℕ → ℕ} (small : c < 2 ^ 32) (
       ∙ count-of-gray c small
 
   none-twofold : lowest 8 0 (someTwofold layout byte) ≡ Nowhere
-  none-twofold = none-lowest 8 0 (someTwofold layout byte) (λ n from to. none-some (layout .copies) _ (λ copy l. single copy n l (omega arith)))
-    where
-      single : (copy n : ℕ) → copy < layout .copies → n < 8 → twofold (byte (8 * copy + n)) ≡ false
-      single copy n l m = ap twofold (exact (8 * copy + n) (slot-in copy n l m)) ∙ slot-single c (8 * copy + n)
+  none-twofold = none-lowest 8 0 (someTwofold layout byte) (λ n from to. none-some (layout .copies) _ (λ copy l. no-twofold _ (legible .bytes (8 * copy + n) (omega arith))))
 
-  none-lost : 1 ≤ layout .copies → lowest 8 0 (lostAt layout (λ k. readingOf (byte k))) ≡ Nowhere
-  none-lost one = none-lowest 8 0 (lostAt layout (λ k. readingOf (byte k))) (λ n from to. every-not (layout .copies) _ 0 one (told n (omega arith)))
-    where
-      told : (n : ℕ) → n < 8 → isLost (readingOf (byte (8 * 0 + n))) ≡ false
-      told n m = ap (λ (b : ℕ). isLost (readingOf b)) (exact (8 * 0 + n) (slot-in 0 n one m)) ∙ slot-kept c (8 * 0 + n)
+  none-lost : lowest 8 0 (lostAt layout (λ k. readingOf (byte k))) ≡ Nowhere
+  none-lost = none-lowest 8 0 (lostAt layout (λ k. readingOf (byte k))) (λ n from to. let (copy, l, has) = legible .kept n (omega arith) in every-not (layout .copies) _ copy l has)
 
-  pub weigh-exact : 1 ≤ layout .copies → weigh layout byte ≡ Good c (pos 0)
+  -- such bytes read as c, with lag 0
+  pub weigh-legible : weigh layout byte ≡ Good c (pos 0)
   unfolding weigh
-  weigh-exact one = rw (none-twofold, none-lost one, count-read 0 one, count-read (layout .copies - 1) (omega arith)) (decide-same c)
+  weigh-legible =
+      let one = legible .kept 0 (omega arith) .1 in
+      rw (none-twofold, none-lost, count-read 0 (omega arith), count-read (layout .copies - 1) (omega arith)) (decide-same c)
+
+-- so do the codes of c
+pub weigh-exact : (layout : Layout) {c : ℕ} {byte : ℕ → ℕ} → c < 2 ^ 32 → ((k : ℕ) → k < slots layout → byte k ≡ slotCode c k)
+    → 1 ≤ layout .copies → weigh layout byte ≡ Good c (pos 0)
+weigh-exact layout {c} {byte} small exact one = weigh-legible layout small legible
+  where
+    legible : Legible layout c byte
+    legible =
+        record {
+          bytes = λ k l. rw (exact k l) (slot-small c k);
+          reads = λ k l has. rw (exact k l) (slot-round c k);
+          kept = λ n m. (0, one, rw (exact (8 * 0 + n) (omega arith)) (slot-kept c (8 * 0 + n)));
+        }

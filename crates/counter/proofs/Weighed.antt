@@ -4,7 +4,7 @@
 --   weigh-entries             what the bytes come to, by their entries
 use Prim.Native.Nat.{ℕ, zero, suc, _+_, _-_, _*_, _<_}
 use mathlib.Core.Path.{_≡_, refl, sym, ap, _∙_}
-use mathlib.Core.Bool.{Bool, true, false, cond}
+use mathlib.Core.Bool.{cond}
 use mathlib.Core.List.{List}
 use native.Mathlib.Nat.{zero-add}
 use native.Mathlib.Omega.{arith}
@@ -13,7 +13,7 @@ use Rattle.code.specs.Readings.{readingOf, twofold, isLost, nibbleRead}
 use Rattle.code.specs.Entries.{readingAt, twofoldAt, entryOf}
 use Rattle.code.specs.Gray.{countOf}
 use Rattle.code.specs.Nibbles.{wordOf}
-use Rattle.code.proofs.ReadingLaws.{entry-reading, entry-twofold, lost-zero}
+use Rattle.code.proofs.ReadingLaws.{entry-reading, entry-twofold, lost-zero, read-or-lent}
 use Rattle.code.proofs.TabulateLaws.{alike}
 use Rattle.counter.specs.declared.reading.Fault.the-variants.{Twofold, LostInAll}
 use Rattle.counter.specs.declared.verdict.Refusal.the-variants.{TwoCodes, LostNibble}
@@ -25,30 +25,14 @@ use Rattle.counter.proofs.RangeTests.{every-same, some-same, lowest-sam
 
 -- the nibble of a reading, by way of a test that it is not lost
 kept : (r : Reading) → cond (isLost r) 0 (nibbleRead r) ≡ nibbleRead r
-kept r = go (isLost r) refl
-  where
-    go : (b : Bool) → isLost r ≡ b → cond (isLost r) 0 (nibbleRead r) ≡ nibbleRead r
-    go true e = rw e (sym (lost-zero r e))
-    go false e = rw e
+kept r = read-or-lent r 0 (nibbleRead r) (λ e. refl) (λ e. sym (lost-zero r e))
 
 -- a nibble of one copy takes the other's where it is lost
 pub nibble-two : (reading : ℕ → Reading) (copy n : ℕ) → copy < 2
     → nibbleIn two reading copy n ≡ cond (isLost (reading (8 * copy + n))) (nibbleRead (reading (8 - 8 * copy + n))) (nibbleRead (reading (8 * copy + n)))
 unfolding nibbleIn firstRead
-nibble-two reading zero n l = go (isLost (reading (0 + n))) refl
-  where
-    go : (b : Bool) → isLost (reading (0 + n)) ≡ b
-        → cond (isLost (reading (0 + n))) (cond (isLost (reading (0 + n))) (cond (isLost (reading (8 + n))) 0 (nibbleRead (reading (8 + n)))) (nibbleRead (reading (0 + n)))) (nibbleRead (reading (0 + n)))
-        ≡ cond (isLost (reading (0 + n))) (nibbleRead (reading (8 + n))) (nibbleRead (reading (0 + n)))
-    go true e = rw e (kept (reading (8 + n)))
-    go false e = rw e
-nibble-two reading (suc zero) n l = go (isLost (reading (8 + n))) refl
-  where
-    go : (b : Bool) → isLost (reading (8 + n)) ≡ b
-        → cond (isLost (reading (8 + n))) (cond (isLost (reading (0 + n))) (cond (isLost (reading (8 + n))) 0 (nibbleRead (reading (8 + n)))) (nibbleRead (reading (0 + n)))) (nibbleRead (reading (8 + n)))
-        ≡ cond (isLost (reading (8 + n))) (nibbleRead (reading (0 + n))) (nibbleRead (reading (8 + n)))
-    go true e = rw e (kept (reading (0 + n)))
-    go false e = rw e
+nibble-two reading zero n l = read-or-lent (reading (0 + n)) _ _ (λ e. rw e) (λ e. rw e (kept (reading (8 + n))))
+nibble-two reading (suc zero) n l = read-or-lent (reading (8 + n)) _ _ (λ e. rw e) (λ e. rw e (kept (reading (0 + n))))
 nibble-two reading (suc (suc copy)) n l = absurd (omega arith)
 
 -- readings that agree on all slots give the same counts

@@ -1,8 +1,9 @@
--- The cases of the bench that are proved (document 01, "Measured on the bench", those with a star), and some of document 02, P1, as
--- one table about the definitions.
+-- The cases of the bench that are proved (document 01, "Measured on the bench", those with a star), and some of document 02, P1 and
+-- P3, as one table about the definitions.
 --   Row     a case: what the definitions answer, and what the paper says
---   bench   the cases of document 01, 1 to 13
+--   bench   the cases of document 01, 1 to 13, with case 6 as P3 has it
 --   mended  the cases of P1
+--   erased  the cases of P3
 --   holds   in each case the definitions answer what the paper says
 use Prim.Native.Nat.{ℕ}
 use mathlib.Core.Path.{_≡_, refl}
@@ -71,7 +72,7 @@ bench =
     row 3 (reads (readingOf 0x06)) (reads (Mended 1 0)) ∷
     row 4 (reads (readingOf 0x0F)) (reads (Mended 1 3)) ∷
     row 5 (reads (readingOf 0x01)) (reads Lost) ∷
-    row 6 (reads (readingOf 0xFF)) (reads (Mended 15 7)) ∷
+    row 6 (reads (readingOf 0xFF)) (reads Lost) ∷
     row 7 (word (grayOf 16)) (word 0x18) ∷
     row 7 (word (grayOf 15)) (word 0x08) ∷
     row 8 (word (grayOf 4294967295)) (word 0x80000000) ∷
@@ -90,7 +91,15 @@ mended =
     row 3 (look 0xB1 0xCA) (plain (answer 6 0 (negsuc 0) 0 0 0)) ∷
     []
 
+-- what is erased in one copy is read from the other; in both it is refused; a step stopped at FF in copy 1 gives the old count
+abbrev pub erased : List Row
+erased =
+    row 1 (look 0xFF 0x61) (plain (answer 0 2 (pos 0) 0 0 0)) ∷
+    row 2 (look 0xFF 0xFF) (plain (answer 5 0 (pos 0) 0 0 0)) ∷
+    row 3 (look 0xFF 0xE6) (plain (answer 0 9 (pos 0) 0 0 0)) ∷
+    []
+
 -- in each case the definitions answer what the paper says
-pub holds : map (λ r. r .found) (bench ++ mended) ≡ map (λ r. r .paper) (bench ++ mended)
+pub holds : map (λ r. r .found) (bench ++ mended ++ erased) ≡ map (λ r. r .paper) (bench ++ mended ++ erased)
 unfolding codes codeOf distance trailingZeros nearFrom near readingOf twofold isLost nibbleRead mendedIn howMany bitCounts bits grayOf halvesOf countOf wordOf ones kindOf every some lowest lengthGood placesGood marked offsetIn offsetOf pointerAt pointerOf reachable inOrder sound answerOf firstRead nibbleIn countIn close decide weigh examine verdictOf bitsOf readOf
 holds = refl

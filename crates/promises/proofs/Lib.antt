@@ -4,6 +4,7 @@ pub mod Untouched
 pub mod OwnCells
 pub mod TurnsAndCells
 pub mod MendedCells
+pub mod Damage
 pub mod Room
 pub mod StepChanges
 pub mod Written
