@@ -223,7 +223,7 @@ static second_answer read_count(const uint8_t *image, size_t m)
     return (second_answer){.count = count1, .lag = lag};
 }
 
-/* Document 02, P1: of the sixteen cells each that is a code with one bit wrong counts in that bit. */
+/* Document 02, P1: of the sixteen cells each that is a code with one bit wrong, and not erased (P3), counts in that bit. */
 static void count_mended(const uint8_t *image, size_t m, uint32_t *bit)
 {
     for (int pointer = 0; pointer < all_pointers; pointer++) {

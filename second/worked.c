@@ -58,7 +58,7 @@ static void readings(void)
     expect(answer.code == 6 && answer.lag == -4294967295, "0 over 4294967295 is no lag of 1");
 }
 
-/* Bytes in the two cells of nibble 0, and how many cells were mended in each bit: document 02, P1, and behind it P3. */
+/* Document 02, P1 and P3: bytes in the two cells of nibble 0, what is read, and how many cells were mended in each bit. */
 static void mended(void)
 {
     static const struct {
@@ -79,7 +79,7 @@ static void mended(void)
         second_read_answer read = read_with(tries[i].in1, tries[i].in2);
         expect(read.answer.code == tries[i].code && read.answer.count == tries[i].count &&
                    memcmp(read.bit, tries[i].bit, sizeof read.bit) == 0,
-               "the bits that were mended");
+               "the count, and the bits that were mended");
     }
 }
 

@@ -1,5 +1,5 @@
 #!/usr/bin/env bash
-# tests/look.sh: holds ./look to document 01 ("What comes back", "Measured on the bench") and document 02 (P1) on images of many
+# tests/look.sh: holds ./look to document 01 ("What comes back", "Measured on the bench") and document 02 (P1, P3) on images of many
 # lengths and readings, and on inputs that are no image. Prints what differs; exits 1 if anything did.
 set -u
 root=$(dirname -- "$(dirname -- "$(readlink -f -- "$0")")")
@@ -78,6 +78,11 @@ with 128 18 29 01 34 01; looks 'counts of refusal 5' 5 0 0 7
 with 128 18 9 1A; looks 'counts of refusal 4' 4 0 0 0
 for at in 25 26 27 28 29 30 31 32 33 34 123 124 126 127; do set -- "$@" $at A0; done
 with "$@" 128 39 125 39; looks 'all cells in bit 5' 0 3 0 0 0 0 0 0 0 16
+
+# erased cells
+with 128 FF; looks 'FF in copy 1' 0 3 0 0
+with 125 00; looks '00 in copy 2' 0 3 0 0
+with 128 FF 125 FF; looks 'FF in both copies' 5 0 0 0
 
 # the example as it stands, on standard input, from another folder, by a name of its own
 says 'the example' "$("$root/look" "$example"; printf .)" "$(cat "$root/examples/setting-a.txt"; printf .)"

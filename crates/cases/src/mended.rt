@@ -48,7 +48,8 @@ fn lags_and_refusals() {
     say_mended(b"P1 CA B1, mark gone, read", set(stopped, 1, 0xFF));
 }
 
-// Nibble i of copy 1 wrong in bit i. Near the end the word is 80000001 hex: 06 and B4 are the codes of 1 and 8 with a bit wrong.
+// Nibble i of copy 1 wrong in bit i. Near the end nibbles 0 and 7 are 1 and 8, of whose codes 06 and B4 have a bit wrong; 80 with bit
+// 7 wrong would be 00, which is lost.
 fn each_bit() {
     let chip = set(set(near_the_end(), 128, 0x06), 127, 0x82);
     let chip = set(set(chip, 126, 0x84), 25, 0x88);

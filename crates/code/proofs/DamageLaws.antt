@@ -1,11 +1,12 @@
 -- What a cell reads as that held a code and was damaged (document 02, P3).
---   code-whole      no code is 00 or FF, which an erased cell shows
---   kept-whole      these two are lost
---   flipped-mended  a code with one bit flipped reads mended, to its nibble and in that bit, unless it has become 00 or FF
---   Shows           what a cell may show that held the code of d: the code, the code with one bit flipped, or 00 or FF
---   shows-byte      that is a byte
---   shows-reads     where it is neither 00 nor FF it is not lost, and reads as d
-use mathlib.Core.Path.{_≡_, refl, sym, ap, _∙_}
+--   code-whole        no code is 00 or FF, which an erased cell shows
+--   kept-whole        what is not lost is neither
+--   erased-unmended   neither was mended in some bit
+--   flipped-mended    a code with one bit flipped reads mended, to its nibble and in that bit, unless it has become 00 or FF
+--   Shows             what a cell may show that held the code of d: the code, the code with one bit flipped, or 00 or FF
+--   shows-byte        that is a byte
+--   shows-reads       where it is neither 00 nor FF it is not lost, and reads as d
+use mathlib.Core.Path.{_≡_, refl, ap, _∙_}
 use mathlib.Core.Bool.{Bool, true, false, cond, _||_, true≢false}
 use Prim.Native.Nat.{ℕ, _^_, _<_}
 use native.Mathlib.Omega.{arith}
@@ -15,9 +16,10 @@ use lib.Count.{onesIn, trailingZeros}
 use lib.Dec.{eqb}
 use lib.Pow.{pow-lt}
 use Rattle.code.specs.declared.reading.Reading.{Reading}
-use Rattle.code.specs.declared.reading.Reading.the-variants.{Clean, Mended, Lost}
+use Rattle.code.specs.declared.reading.Reading.the-variants.{Mended, Lost}
 use Rattle.code.specs.Codes.{codes, codeOf}
 use Rattle.code.specs.Readings.{erased, readingOf, isLost, nibbleRead}
+use Rattle.code.specs.Mended.{mendedIn}
 use Rattle.code.specs.Tabulate.{tabulate}
 use Rattle.code.proofs.TabulateLaws.{agree}
 use Rattle.code.proofs.CodeLaws.{code-small}
@@ -29,7 +31,7 @@ pub code-whole : (d : ℕ) → d < 16 → erased (codeOf d) ≡ false
 unfolding codes codeOf
 code-whole = agree (λ d. erased (codeOf d)) (λ d. false) 16 refl
 
--- what an erased cell shows is lost
+-- what is not lost is not what an erased cell shows
 pub kept-whole : (b : ℕ) → isLost (readingOf b) ≡ false → erased b ≡ false
 unfolding readingOf isLost
 kept-whole b kept = go (erased b) refl
@@ -37,6 +39,11 @@ kept-whole b kept = go (erased b) refl
     go : (gone : Bool) → erased b ≡ gone → erased b ≡ false
     go true e = absurd (true≢false (rw e at kept))
     go false e = e
+
+-- what an erased cell shows was mended in no bit
+pub erased-unmended : (b i : ℕ) → erased b ≡ true → mendedIn i (readingOf b) ≡ false
+unfolding readingOf mendedIn
+erased-unmended b i gone = rw gone
 
 -- ---- one bit flipped
 

@@ -1,4 +1,4 @@
--- The laws of mended bits (document 02, P1).
+-- The laws of mended bits (document 02, P1 and P3).
 --   tally-of-bits  16 bytes are mended in each of the bits 0 to 6, and 14 in bit 7
 --   many-most      of n numbers the test holds of at most n
 --   one-more       a count of one bit more

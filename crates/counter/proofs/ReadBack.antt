@@ -1,11 +1,12 @@
 -- Cells to turns: bytes that read as the nibbles of a count, lost ones aside, are read as that count, with lag 0.
 --   slot-code                 the code of a slot, by its nibble of the word
+--   Spared                    a test does not hold of a nibble in every copy
 --   Legible, weigh-legible    where of each nibble some copy is not lost
 --   weigh-exact               where all are the count's codes
 use Prim.Native.Nat.{ℕ, zero, suc, _+_, _-_, _*_, _%_, _^_, _≤_, _<_}
 use mathlib.Core.Path.{_≡_, refl, sym, ap, _∙_}
 use mathlib.Core.Logic.{_≢_}
-use mathlib.Core.Bool.{false, true≢false}
+use mathlib.Core.Bool.{Bool, false, true≢false}
 use mathlib.Core.List.{List}
 use native.Mathlib.Omega.{arith}
 use lib.IntN.{pos, +ℤ-invr}
@@ -31,27 +32,19 @@ pub slot-code : (c k : ℕ) → slotCode c k ≡ codeOf (nibbleOf (grayOf c) (k 
 unfolding slotCode
 slot-code c k = refl
 
-slot-kept : (c k : ℕ) → isLost (readingOf (slotCode c k)) ≡ false
-unfolding slotCode
-slot-kept c k = nibble-kept (grayOf c) (k % 8)
-
-slot-round : (c k : ℕ) → nibbleRead (readingOf (slotCode c k)) ≡ nibbleOf (grayOf c) (k % 8)
-unfolding slotCode
-slot-round c k = nibble-round (grayOf c) (k % 8)
-
-slot-small : (c k : ℕ) → slotCode c k < 256
-unfolding slotCode
-slot-small c k = code-small (nibbleOf (grayOf c) (k % 8))
-
 decide-same : (c : ℕ) → decide c c ≡ Good c (pos 0)
 unfolding decide close
 decide-same c = rw (+ℤ-invr (pos c))
 
--- every slot that is not lost reads as its nibble of c's word, and no nibble is lost in every copy
+-- the test does not hold of nibble n's slot in some copy
+abbrev pub Spared : Layout → (ℕ → Bool) → ℕ → Type 0
+Spared layout test n = (copy : ℕ) × (copy < layout .copies) × (test (8 * copy + n) ≡ false)
+
+-- bytes of which each that is not lost reads as its nibble of c's word, with no nibble lost in every copy
 pub record Legible (layout : Layout) (c : ℕ) (byte : ℕ → ℕ) : Type 0 where
   pub bytes : (k : ℕ) → k < slots layout → byte k < 256
-  pub reads : (k : ℕ) → k < slots layout → isLost (readingOf (byte k)) ≡ false → nibbleRead (readingOf (byte k)) ≡ nibbleOf (grayOf c) (k % 8)
-  pub kept : (n : ℕ) → n < 8 → (copy : ℕ) × (copy < layout .copies) × (isLost (readingOf (byte (8 * copy + n))) ≡ false)
+  pub told : (k : ℕ) → k < slots layout → isLost (readingOf (byte k)) ≡ false → nibbleRead (readingOf (byte k)) ≡ nibbleOf (grayOf c) (k % 8)
+  pub spared : (n : ℕ) → n < 8 → Spared layout (λ k. isLost (readingOf (byte k))) n
 
 module _ (layout : Layout) {c : ℕ} {byte : ℕ → ℕ} (small : c < 2 ^ 32) (legible : Legible layout c byte) where
   -- nibble n of a copy that has one
@@ -59,7 +52,7 @@ module _ (layout : Layout) {c : ℕ} {byte : ℕ → ℕ} (small : c < 2 ^ 32) (
       → nibbleRead (readingOf (byte (8 * copy + n))) ≡ nibbleOf (grayOf c) n
   own-read copy n l m has =
       let e : (8 * copy + n) % 8 ≡ n = omega arith in
-      legible .reads (8 * copy + n) (omega arith) has ∙ ap (nibbleOf (grayOf c)) e
+      legible .told (8 * copy + n) (omega arith) has ∙ ap (nibbleOf (grayOf c)) e
 
   -- of the lowest-numbered copy that has one, if a copy among those from `copy` on does
   first-read : (left copy n other : ℕ) → copy + left ≤ layout .copies → n < 8 → copy ≤ other → other < copy + left
@@ -75,7 +68,7 @@ module _ (layout : Layout) {c : ℕ} {byte : ℕ → ℕ} (small : c < 2 ^ 32) (
   nibble-read : (copy n : ℕ) → copy < layout .copies → n < 8 → nibbleIn layout (λ k. readingOf (byte k)) copy n ≡ nibbleOf (grayOf c) n
   unfolding nibbleIn
   nibble-read copy n l m =
-      let (other, to, has) = legible .kept n m in
+      let (other, to, has) = legible .spared n m in
       read-or-lent (readingOf (byte (8 * copy + n))) _ _ (own-read copy n l m)
       (λ gone. first-read (layout .copies) 0 n other (omega arith) m (omega arith) (omega arith) has)
 
@@ -90,13 +83,13 @@ module _ (layout : Layout) {c : ℕ} {byte : ℕ → ℕ} (small : c < 2 ^ 32) (
   none-twofold = none-lowest 8 0 (someTwofold layout byte) (λ n from to. none-some (layout .copies) _ (λ copy l. no-twofold _ (legible .bytes (8 * copy + n) (omega arith))))
 
   none-lost : lowest 8 0 (lostAt layout (λ k. readingOf (byte k))) ≡ Nowhere
-  none-lost = none-lowest 8 0 (lostAt layout (λ k. readingOf (byte k))) (λ n from to. let (copy, l, has) = legible .kept n (omega arith) in every-not (layout .copies) _ copy l has)
+  none-lost = none-lowest 8 0 (lostAt layout (λ k. readingOf (byte k))) (λ n from to. let (copy, l, has) = legible .spared n (omega arith) in every-not (layout .copies) _ copy l has)
 
   -- such bytes read as c, with lag 0
   pub weigh-legible : weigh layout byte ≡ Good c (pos 0)
   unfolding weigh
   weigh-legible =
-      let one = legible .kept 0 (omega arith) .1 in
+      let one = legible .spared 0 (omega arith) .1 in
       rw (none-twofold, none-lost, count-read 0 (omega arith), count-read (layout .copies - 1) (omega arith)) (decide-same c)
 
 -- so do the codes of c
@@ -107,7 +100,7 @@ weigh-exact layout {c} {byte} small exact one = weigh-legible layout small legib
     legible : Legible layout c byte
     legible =
         record {
-          bytes = λ k l. rw (exact k l) (slot-small c k);
-          reads = λ k l has. rw (exact k l) (slot-round c k);
-          kept = λ n m. (0, one, rw (exact (8 * 0 + n) (omega arith)) (slot-kept c (8 * 0 + n)));
+          bytes = λ k l. rw (exact k l ∙ slot-code c k) (code-small (nibbleOf (grayOf c) (k % 8)));
+          told = λ k l has. rw (exact k l ∙ slot-code c k) (nibble-round (grayOf c) (k % 8));
+          spared = λ n m. let k = 8 * 0 + n in (0, one, rw (exact k (omega arith) ∙ slot-code c k) (nibble-kept (grayOf c) (k % 8)));
         }

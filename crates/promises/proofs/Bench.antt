@@ -3,7 +3,7 @@
 --   Row     a case: what the definitions answer, and what the paper says
 --   bench   the cases of document 01, 1 to 13, with case 6 as P3 has it
 --   mended  the cases of P1
---   erased  the cases of P3
+--   erasures  the cases of P3
 --   holds   in each case the definitions answer what the paper says
 use Prim.Native.Nat.{ℕ}
 use mathlib.Core.Path.{_≡_, refl}
@@ -92,14 +92,14 @@ mended =
     []
 
 -- what is erased in one copy is read from the other; in both it is refused; a step stopped at FF in copy 1 gives the old count
-abbrev pub erased : List Row
-erased =
+abbrev pub erasures : List Row
+erasures =
     row 1 (look 0xFF 0x61) (plain (answer 0 2 (pos 0) 0 0 0)) ∷
     row 2 (look 0xFF 0xFF) (plain (answer 5 0 (pos 0) 0 0 0)) ∷
     row 3 (look 0xFF 0xE6) (plain (answer 0 9 (pos 0) 0 0 0)) ∷
     []
 
 -- in each case the definitions answer what the paper says
-pub holds : map (λ r. r .found) (bench ++ mended ++ erased) ≡ map (λ r. r .paper) (bench ++ mended ++ erased)
+pub holds : map (λ r. r .found) (bench ++ mended ++ erasures) ≡ map (λ r. r .paper) (bench ++ mended ++ erasures)
 unfolding codes codeOf distance trailingZeros nearFrom near readingOf twofold isLost nibbleRead mendedIn howMany bitCounts bits grayOf halvesOf countOf wordOf ones kindOf every some lowest lengthGood placesGood marked offsetIn offsetOf pointerAt pointerOf reachable inOrder sound answerOf firstRead nibbleIn countIn close decide weigh examine verdictOf bitsOf readOf
 holds = refl
