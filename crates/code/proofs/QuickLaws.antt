@@ -1,7 +1,8 @@
 -- The nearest-code rule, computed quickly: the bits of a byte are counted in eight steps, and not in as many as the byte is large.
---   quickTwofold, quickReading   whether a byte is one bit from two codes, and its reading
---   reading-quick   the reading is that by the rule
---   by-quick        what is made of the two is the same by the rule and quickly
+--   quickTwofold    whether a byte is one bit from two codes
+--   quickReading    the reading of a byte
+--   reading-quick   it is that by the rule
+--   by-quick        what is made of both is the same by the rule and quickly
 --   quickEntry      the entry of a byte
 --   entries-quick   the table holds these entries
 use mathlib.Core.Path.{_≡_, refl, ap, _∙_}
@@ -69,7 +70,7 @@ pub reading-quick : (b : ℕ) → b < 256 → readingOf b ≡ quickReading b
 unfolding readingOf
 reading-quick b small = λ t. cond (erased b) Lost (nearest b (near-quick 0 b small t) (near-quick 1 b small t))
 
--- what is made of the two is the same by the rule and quickly
+-- what is made of both is the same by the rule and quickly
 pub by-quick : {A : Type 0} (make : Bool → Reading → A) (b : ℕ) → b < 256 → make (twofold b) (readingOf b) ≡ make (quickTwofold b) (quickReading b)
 unfolding twofold
 by-quick make b small = λ t. make (several (near-quick 1 b small t)) (reading-quick b small t)

@@ -11,7 +11,7 @@
 --   code-clean          the code of d reads clean d
 --   code-injective      two nibbles with one code are one
 --   lost-zero           a lost reading gives the nibble 0
---   read-or-lent        a nibble as it is read, or where it is lost another, is d if either is
+--   read-or-lent        a nibble as it is read, or where it is lost another, is d if it is so either way
 --   nibble-round        the code of a word's nibble reads as that nibble
 --   nibble-kept         the code of a word's nibble is not lost
 --   nibble-unmended     the code of a word's nibble was mended in no bit
@@ -150,7 +150,7 @@ lost-zero (Clean d) h = absurd (true≢false cc)
 lost-zero (Mended d bit) h = absurd (true≢false cc)
 lost-zero Lost h = refl
 
--- a nibble as it is read, or where it is lost another, is d if either is
+-- a nibble as it is read, or where it is lost another, is d if it is so either way
 pub read-or-lent : (r : Reading) (other d : ℕ) → (isLost r ≡ false → nibbleRead r ≡ d) → (isLost r ≡ true → other ≡ d)
     → cond (isLost r) other (nibbleRead r) ≡ d
 read-or-lent r other d read lent = go (isLost r) refl

@@ -1,10 +1,10 @@
 -- The cases of the bench that are proved (document 01, "Measured on the bench", those with a star), and some of document 02, P1 and
 -- P3, as one table about the definitions.
---   Row     a case: what the definitions answer, and what the paper says
---   bench   the cases of document 01, 1 to 13, with case 6 as P3 has it
---   mended  the cases of P1
+--   Row       a case: what the definitions answer, and what the paper says
+--   bench     the cases of document 01, 1 to 13, with case 6 as P3 has it
+--   mended    the cases of P1
 --   erasures  the cases of P3
---   holds   in each case the definitions answer what the paper says
+--   holds     in each case the definitions answer what the paper says
 use Prim.Native.Nat.{ℕ}
 use mathlib.Core.Path.{_≡_, refl}
 use mathlib.Core.List.{List, [], _∷_, _++_, map}
