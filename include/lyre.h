@@ -32,8 +32,8 @@ extern "C" {
     3  no mark at m: the image was never opened, or its first opening did not come to an end, or the mark is damaged. lyre_open
        never answers this: it then opens the image for the first time, from count 0
     4  the mark is there, but the map is not sound
-    5  a nibble is lost in both copies; place is the lowest such nibble, 0 to 7. A cell is lost that holds 00 or FF, as erased and
-       failed cells do, or a byte that is more than one bit from every code
+    5  a nibble is lost in both copies; place is the lowest such nibble, 0 to 7. A cell is lost that holds 00 or FF, as erased cells
+       do and failed ones may, or a byte that is more than one bit from every code
     6  the copies disagree; lag says by how much, and is neither 0 nor 1
     7  a step at the highest count, 4294967295
     8  no spare of the kind holds; place is the nibble, plus 8 in copy 2; cells and lives stay as written so far, and writes and

@@ -1,6 +1,6 @@
 -- Cells to turns: bytes that read as the nibbles of a count, lost ones aside, are read as that count, with lag 0.
 --   slot-code                 the code of a slot, by its nibble of the word
---   Spared                    a test does not hold of a nibble in every copy
+--   Spared                    in some copy a test does not hold of a nibble
 --   Legible, weigh-legible    where of each nibble some copy is not lost
 --   weigh-exact               where all are the count's codes
 use Prim.Native.Nat.{ℕ, zero, suc, _+_, _-_, _*_, _%_, _^_, _≤_, _<_}
@@ -36,7 +36,7 @@ decide-same : (c : ℕ) → decide c c ≡ Good c (pos 0)
 unfolding decide close
 decide-same c = rw (+ℤ-invr (pos c))
 
--- the test does not hold of nibble n's slot in some copy
+-- in some copy the test does not hold of nibble n's slot
 abbrev pub Spared : Layout → (ℕ → Bool) → ℕ → Type 0
 Spared layout test n = (copy : ℕ) × (copy < layout .copies) × (test (8 * copy + n) ≡ false)
 

@@ -3,6 +3,7 @@
 --   shown, Damaged   such a change
 --   damaged-reads    what is read then; of the counts of mended bits it says nothing
 --   erased-reads     the whole answer, where any one data cell was erased: nothing was mended
+--   open-outlives, step-outlives   damaged-reads, of what a good open or step left
 use Prim.Native.Nat.{ℕ, _+_, _*_, _%_, _^_, _≤_, _<_}
 use mathlib.Core.Path.{_≡_, ap, _∙_}
 use mathlib.Core.Bool.{true, false}
@@ -28,14 +29,14 @@ use Rattle.counter.specs.Map.{mapIn, pointerOf}
 use Rattle.counter.specs.Reading.{weigh, verdictOf}
 use Rattle.counter.specs.Mended.{bitsOf}
 use Rattle.counter.specs.Verdict.{answer}
-use Rattle.counter.specs.Doors.{readOf, readAnswerOf}
+use Rattle.counter.specs.Doors.{openOf, stepOf, readOf, readAnswerOf}
 use Rattle.counter.proofs.SoundPointers.{Inside}
 use Rattle.counter.proofs.Ready.{pointers, ready-kept, map-kept}
 use Rattle.counter.proofs.ReadBack.{slot-code, Spared, Legible, weigh-legible}
 use Rattle.counter.proofs.Exact.{Exact, read-weighed}
 use Rattle.counter.proofs.MendedBits.{bits-good}
 use Rattle.counter.proofs.DoorAnswers.{read-good}
-use Rattle.promises.proofs.TurnsAndCells.{readsClean}
+use Rattle.promises.proofs.TurnsAndCells.{left-by-open, left-by-step, readsClean}
 
 -- what the cell of slot k in s shows in t
 abbrev pub shown : Layout → Places → Chip → Chip → ℕ → ℕ
@@ -108,3 +109,14 @@ module _ {layout : Layout} {p : Places} {c : ℕ} {s t : Chip} (exact : Exact la
 
     pub erased-reads : readAnswerOf layout p (t .cells) ≡ readsClean c
     erased-reads = λ i. record { answer = damaged-reads damaged i; bits = no-counts i }
+
+module _ (layout : Layout) (p : Places) (s t : Chip) where
+  pub open-outlives :
+      openOf layout p s .says .code ≡ 0 → Damaged layout p (openOf layout p s .says .count) (openOf layout p s .leaves) t
+      → readOf layout p (t .cells) ≡ answer 0 (openOf layout p s .says .count) (pos 0) 0 0 0
+  open-outlives good = let (small, exact) = left-by-open layout p s good in damaged-reads exact small
+
+  pub step-outlives :
+      stepOf layout p s .says .code ≡ 0 → Damaged layout p (stepOf layout p s .says .count) (stepOf layout p s .leaves) t
+      → readOf layout p (t .cells) ≡ answer 0 (stepOf layout p s .says .count) (pos 0) 0 0 0
+  step-outlives good = let (small, exact) = left-by-step layout p s good in damaged-reads exact small

@@ -3,6 +3,7 @@
 -- more than that of the read before it.
 --   run-exact                 a good call leaves its count exactly
 --   open-exact, step-exact    so do open and step, of the count that they answer
+--   left-by-open, left-by-step  and it has 32 bits
 --   StepGood, step-good       what a good step read, answered and left
 --   open-reads, step-reads    what is read then
 --   step-counts               the count of a good step, and its lag, from the read before it
@@ -61,10 +62,10 @@ says-exact :
 says-exact r comes e = let g = code-good (r .answer) (length (r .log)) (r .tried) e in rw (good-says r (g .2)) (run-exact r comes (g .2))
 
 module _ (layout : Layout) (p : Places) (s : Chip) where
-  left-by-open : openOf layout p s .says .code ≡ 0 → (openOf layout p s .says .count < 2 ^ 32) × Exact layout p (openOf layout p s .says .count) (openOf layout p s .leaves)
+  pub left-by-open : openOf layout p s .says .code ≡ 0 → (openOf layout p s .says .count < 2 ^ 32) × Exact layout p (openOf layout p s .says .count) (openOf layout p s .leaves)
   left-by-open = rw (open-is layout p s) (says-exact (openRun layout p s) (open-laws layout p s .comes))
 
-  left-by-step : stepOf layout p s .says .code ≡ 0 → (stepOf layout p s .says .count < 2 ^ 32) × Exact layout p (stepOf layout p s .says .count) (stepOf layout p s .leaves)
+  pub left-by-step : stepOf layout p s .says .code ≡ 0 → (stepOf layout p s .says .count < 2 ^ 32) × Exact layout p (stepOf layout p s .says .count) (stepOf layout p s .leaves)
   left-by-step = rw (step-is layout p s) (says-exact (stepRun layout p s) (step-laws layout p s .comes))
 
   pub open-exact : openOf layout p s .says .code ≡ 0 → Exact layout p (openOf layout p s .says .count) (openOf layout p s .leaves)
