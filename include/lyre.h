@@ -1,12 +1,13 @@
-/* The doors for C of the turn counter, a 32-bit count kept in an EEPROM image by the scheme of AN1449, and of Intel HEX, by which an
-   image comes and goes as text; as documents 01 and 02 set them down. The archive is liblyre.a.
+/* The doors for C of the turn counter, a 32-bit count kept in an EEPROM image by the scheme of AN1449; of Intel HEX, by which an
+   image comes and goes as text; and of the stylus card, which says how many of these turns a sapphire has had; as documents 01 and
+   02 set them down. The archive is liblyre.a.
 
    What a caller owes:
    - the archive holds x86-64 code, called by the System V convention: the stack is aligned to 16 bytes at the call, as a C
      compiler does without being asked;
-   - image points to n bytes, lives to lives_n numbers, and text to room or length bytes, none of them null, even where a length
-     is 0; lives is aligned as uint32_t asks;
-   - the two buffers of a call do not overlap, and nobody else uses them meanwhile;
+   - image points to n bytes, lives to lives_n numbers, speeds and turns to speeds_n and turns_n, and text to room or length bytes,
+     none of them null, even where a length is 0; numbers are aligned as uint32_t asks;
+   - a buffer that is written into overlaps no other of the call, and nobody else uses them meanwhile;
    - a stack of 16 KB, of which lyre_hex_read takes the most, nearly 10.
    Every length, place and content is allowed besides: what is not good is refused with a number. No function of the C library
    is needed, no memory is asked for, and nothing is kept between calls.
@@ -89,6 +90,28 @@ typedef struct {
     uint64_t length; /* of the text that was written; 0 when reading and on a refusal */
 } lyre_hex;
 
+/* What a card answers. The codes of the card are its own, and are tested in the order 5, 1, 4, 2, 3, 6:
+    0  good
+    1  the allowance is outside 1..1000000
+    2  the count is below the one when fitted
+    3  the runs do not add up to the turns used
+    4  more than 64 runs
+    5  the text is not in form; when writing, a speed other than 33 and 45 anywhere in the row, or rows of different lengths
+    6  room is less than the text needs, which is at most 1706
+   On a refusal all else is 0, and text stays as it was. */
+typedef struct {
+    uint32_t code;
+    uint32_t used; /* turns since the sapphire was fitted */
+    int64_t left;  /* the allowance less these; negative once overrun */
+    uint64_t time; /* cutting time in fifteenths of a second: 27 for a turn at 33 1/3 a minute, 20 for one at 45 */
+} lyre_card;
+
+/* What writing a card answers. */
+typedef struct {
+    uint32_t code;   /* 0, or refusal 5, 1, 4 or 6 */
+    uint64_t length; /* of the text that was written; 0 on a refusal */
+} lyre_text;
+
 /* In the first four: n bytes of image, the map's 24 cells from m, the area from s to e, e included. lives[i] is the number of good
    writes left in cell i, and lives_n has to be n. */
 
@@ -113,6 +136,16 @@ lyre_hex lyre_hex_write(const uint8_t *image, size_t n, uint8_t *text, size_t ro
 /* Reads Intel HEX into an image of n bytes: records of 1 to 255 bytes in any order, digits in either letter case, lines ended by a
    line feed or by a carriage return and a line feed. Any bytes are a text, of any length. */
 lyre_hex lyre_hex_read(const uint8_t *text, size_t length, uint8_t *image, size_t n);
+
+/* What the card that a text holds answers at a count. The text is the lines fitted=, allowed=, runs=, and for each run speed= and
+   turns=, each ended by a line feed, with nothing after the last; a number is plain decimal without leading zeros, 4294967295 at most,
+   and a speed is 33 or 45. */
+lyre_card lyre_card_at(const uint8_t *text, size_t length, uint32_t count);
+
+/* Writes a card as its text: when it was fitted, the turns it is allowed, and its runs in two rows, of each the speed and its turns.
+   What stands in text past the part written is kept. */
+lyre_text lyre_card_write(uint32_t fitted, uint32_t allowed, const uint32_t *speeds, size_t speeds_n, const uint32_t *turns,
+                          size_t turns_n, uint8_t *text, size_t room);
 
 #ifdef __cplusplus
 }

@@ -29,7 +29,7 @@ sed 's:^ *//.*::' "$root/crates/lyre/src/lib.rt" |
         /^typedef/s/, ?/;/g' >"$work/source"
 sed -E '/^#/d; s:/\*[^*]*\*/::g; /\/\*/,/\*\//d' "$root/include/lyre.h" |
     lay 'typedef struct\{[^}]*\} \w+;|[^;{}]*\([^)]*\);' >"$work/header"
-[ "$(wc -l <"$work/source")" -eq 10 ] || { echo 'header: not ten exports in the source'; cat "$work/source"; exit 1; }
+[ "$(wc -l <"$work/source")" -eq 14 ] || { echo 'header: not fourteen exports in the source'; cat "$work/source"; exit 1; }
 diff "$work/source" "$work/header" || { echo 'header: lyre.h (>) is not what the source exports (<)'; exit 1; }
 
 $compiler -fsyntax-only -x c - <<C
@@ -49,5 +49,13 @@ AT(lyre_hex, code, 0);
 AT(lyre_hex, line, 8);
 AT(lyre_hex, length, 16);
 _Static_assert(sizeof(lyre_hex) == 24, "lyre_hex");
+AT(lyre_card, code, 0);
+AT(lyre_card, used, 4);
+AT(lyre_card, left, 8);
+AT(lyre_card, time, 16);
+_Static_assert(sizeof(lyre_card) == 24, "lyre_card");
+AT(lyre_text, code, 0);
+AT(lyre_text, length, 8);
+_Static_assert(sizeof(lyre_text) == 16, "lyre_text");
 C
 echo 'header: lyre.h declares what the archive exports'

@@ -1,12 +1,16 @@
-// The doors for C, as include/lyre.h declares them. Each hands its arguments to a door of the counter or of hex, and promises
-// what that door promises.
+// The doors for C, as include/lyre.h declares them. Each hands its arguments to a door of the counter, of hex or of card, and
+// promises what that door promises.
 ghost use mathlib.Core.Path.{_≡_};
+ghost use lib.ListN.{length};
 ghost use Rattle.cells.specs.Chip.{chip};
 ghost use Rattle.counter.specs.Layout.{two};
 ghost use Rattle.counter.specs.Places.{places};
 ghost use Rattle.counter.specs.Doors.{Opens, Steps, Reads, mapPartOf};
 ghost use Rattle.hex.specs.Doors.{outcome, writeOf, readOf};
-ghost use Rattle.lyre.specs.Plain.{answerIn, readAnswerIn, partIn, hexIn};
+ghost use Rattle.card.specs.Cards.{card as cardOf};
+ghost use Rattle.card.specs.Answers.{refused, answerOf};
+ghost use Rattle.card.specs.Doors.{Told, outcome as wrote, writeOf as writeCardOf};
+ghost use Rattle.lyre.specs.Plain.{answerIn, readAnswerIn, partIn, hexIn, cardAnswerIn};
 
 // lyre_answer.
 #[repr(C)]
@@ -44,6 +48,22 @@ pub struct Part {
 pub struct Hex {
     pub code: u32,
     pub line: u64,
+    pub length: u64,
+}
+
+// lyre_card.
+#[repr(C)]
+pub struct Card {
+    pub code: u32,
+    pub used: u32,
+    pub left: i64,
+    pub time: u64,
+}
+
+// lyre_text.
+#[repr(C)]
+pub struct Text {
+    pub code: u32,
     pub length: u64,
 }
 
@@ -146,4 +166,36 @@ pub extern "C" fn lyre_hex_read(text: &[u8], image: &mut [u8]) -> Hex
     ensures { λ r. ⌜ outcome (hexIn r) (now (image .exit)) ≡ readOf (now (text .entry)) (now (image .entry)) ⌝ }
 {
     plain_hex(hex::read_image(text, image))
+}
+
+// What the card that a text shows answers at a count.
+#[no_mangle]
+pub extern "C" fn lyre_card_at(text: &[u8], count: u32) -> Card
+    ensures { λ r. ⌜ Told (now (text .entry)) (λ c. answerOf (length (c .speeds)) c count) (refused 5) (cardAnswerIn r) ⌝ }
+{
+    let answer = card::answer_of_text(text, count);
+    Card {
+        code: answer.code,
+        used: answer.used,
+        left: answer.left,
+        time: answer.time,
+    }
+}
+
+// Writes a card as its text.
+#[no_mangle]
+pub extern "C" fn lyre_card_write(
+    fitted: u32,
+    allowed: u32,
+    speeds: &[u32],
+    turns: &[u32],
+    text: &mut [u8],
+) -> Text
+    ensures { λ r. ⌜ wrote (r .code) (r .length) (now (text .exit)) ≡ writeCardOf (length (now (speeds .entry))) (cardOf fitted allowed (now (speeds .entry)) (now (turns .entry))) (now (text .entry)) ⌝ }
+{
+    let written = card::write_rows(fitted, allowed, speeds, turns, text);
+    Text {
+        code: written.code,
+        length: written.length as u64,
+    }
 }

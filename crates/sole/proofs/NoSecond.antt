@@ -47,16 +47,32 @@ use Rattle.lyre.specs.declared.Answer as plain
 use Rattle.lyre.specs.declared.ReadAnswer as plainReading
 use Rattle.lyre.specs.declared.Part as plainPart
 use Rattle.lyre.specs.declared.Hex as plainHex
+use Rattle.lyre.specs.declared.Card as plainCard
+use Rattle.lyre.specs.declared.Text as plainText
 use Rattle.lyre.proofs.lyre_open
 use Rattle.lyre.proofs.lyre_step
 use Rattle.lyre.proofs.lyre_read
 use Rattle.lyre.proofs.lyre_map_part
 use Rattle.lyre.proofs.lyre_hex_write
 use Rattle.lyre.proofs.lyre_hex_read
+use Rattle.lyre.proofs.lyre_card_at
+use Rattle.lyre.proofs.lyre_card_write
 use Rattle.hex.specs.declared.Answer as hex
 use Rattle.hex.proofs.write_image
 use Rattle.hex.proofs.read_image
+use Rattle.card.specs.declared.Answer as card
+use Rattle.card.specs.declared.Written as written
+use Rattle.card.proofs.RoundTrip.{told-one}
+use Rattle.card.proofs.write_card
+use Rattle.card.proofs.write_rows
+use Rattle.card.proofs.read_card
+use Rattle.card.proofs.answer_at
+use Rattle.card.proofs.answer_of_text
+use Rattle.card.proofs.answer_of_chip
 use Rattle.text.specs.Text.{Wrote}
+use Rattle.text.specs.Reading.{Small}
+use Rattle.text.proofs.Forms.{line-ends, finds-one}
+use Rattle.text.proofs.reading.read_decimal_line
 use Rattle.text.proofs.write_byte
 use Rattle.text.proofs.write_bytes
 use Rattle.text.proofs.write_decimal
@@ -66,7 +82,7 @@ use Rattle.text.proofs.write_signed_line
 use Prim.Native.Nat.{ℕ}
 use mathlib.Core.List.{List}
 
--- an answer, that of read, a part and the answer of Intel HEX as they are laid out for C
+-- an answer, that of read, a part, the answer of Intel HEX and those of a card as they are laid out for C
 abbrev answerOut : verdict.Answer → plain.Answer
 answerOut a = record { code = a .code; count = a .count; lag = a .lag; place = a .place; writes = a .writes; tried = a .tried }
 
@@ -80,6 +96,12 @@ partOut p = record { code = p .code; start = p .start; length = p .size }
 
 abbrev hexOut : hex.Answer → plainHex.Hex
 hexOut a = record { code = a .code; line = a .line; length = a .length }
+
+abbrev cardOut : card.Answer → plainCard.Card
+cardOut a = record { code = a .code; used = a .used; left = a .left; time = a .time }
+
+abbrev textOut : written.Written → plainText.Text
+textOut w = record { code = w .code; length = w .length }
 
 -- bytes written are seen by where they end and by the text as it is left
 one-text :
@@ -216,3 +238,30 @@ module _ {M : Type 1} (𝓤 : URA M) where
 
     pub write-signed-line-one : Sole 𝓤 write_signed_line.ended (write_signed_line.clauses 𝓤 H A mem run) (λ κs r at. filled r (now (at .1 .1 .0)))
     write-signed-line-one _ _ _ _ _ _ _ = both one-text
+
+    pub read-decimal-line-one : Sole 𝓤 read_decimal_line.ended (read_decimal_line.clauses 𝓤 H A mem run) (λ κs r at. r)
+    read-decimal-line-one _ _ _ _ _ _ _ = both (finds-one (line-ends _ Small))
+
+    pub write-card-one : Sole 𝓤 write_card.ended (write_card.clauses 𝓤 H A mem run) (λ κs r at. filled r (now (at .1 .0)))
+    write-card-one _ _ _ _ _ _ _ = same (λ v. filled (v .written) (v .left))
+
+    pub write-rows-one : Sole 𝓤 write_rows.ended (write_rows.clauses 𝓤 H A mem run) (λ κs r at. filled r (now (at .1 .1 .1 .1 .0)))
+    write-rows-one _ _ _ _ _ _ _ = same (λ v. filled (v .written) (v .left))
+
+    pub read-card-one : Sole 𝓤 read_card.ended (read_card.clauses 𝓤 H A mem run) (λ κs r at. r)
+    read-card-one _ _ _ _ _ _ _ = both told-one
+
+    pub answer-at-one : Sole 𝓤 answer_at.ended (answer_at.clauses 𝓤 H A mem run) (λ κs r at. r)
+    answer-at-one _ _ _ _ _ _ _ = same (λ r. r)
+
+    pub answer-of-text-one : Sole 𝓤 answer_of_text.ended (answer_of_text.clauses 𝓤 H A mem run) (λ κs r at. r)
+    answer-of-text-one _ _ _ _ _ _ _ = both told-one
+
+    pub answer-of-chip-one : Sole 𝓤 answer_of_chip.ended (answer_of_chip.clauses 𝓤 H A mem run) (λ κs r at. r)
+    answer-of-chip-one _ _ _ _ _ _ _ = same (λ r. r)
+
+    pub lyre-card-at-one : Sole 𝓤 lyre_card_at.ended (lyre_card_at.clauses 𝓤 H A mem run) (λ κs r at. r)
+    lyre-card-at-one _ _ _ _ _ _ _ = both (λ one two. ap cardOut (told-one one two))
+
+    pub lyre-card-write-one : Sole 𝓤 lyre_card_write.ended (lyre_card_write.clauses 𝓤 H A mem run) (λ κs r at. filled r (now (at .1 .1 .1 .1 .0)))
+    lyre-card-write-one _ _ _ _ _ _ _ = same (λ v. filled (textOut (v .written)) (v .left))

@@ -58,7 +58,7 @@ length-decimal (suc k) n below =
     ]
 
 -- there is a first digit
-length-positive : (n : ℕ) → 0 < length (decimal n)
+pub length-positive : (n : ℕ) → 0 < length (decimal n)
 length-positive n =
     elim (decLe 10 n) [ yes large ↦ omega (arith, length-more n large) | no notLarge ↦ omega (arith, length-small n (omega arith)) ]
 
@@ -77,6 +77,21 @@ unfolding valueFrom
 value-decimal = by-tenths (λ n. valueFrom 0 (decimal n) ≡ n)
     (λ n small. rw (decimal-small n small) (omega arith))
     (λ n large tenth. rw (decimal-more n large, value-last, tenth) (omega arith))
+
+value-least : (n : ℕ) (bytes : List ℕ) → n ≤ valueFrom n bytes
+unfolding valueFrom
+value-least n [] = omega arith
+value-least n (byte ∷ bytes) = omega (arith, value-least (n * 10 + (byte - 48)) bytes)
+
+value-front : (n : ℕ) (front more : List ℕ) → valueFrom n (front ++ more) ≡ valueFrom (valueFrom n front) more
+unfolding valueFrom
+value-front n [] more = refl
+value-front n (byte ∷ front) more = value-front (n * 10 + (byte - 48)) front more
+
+-- a number whose decimal is the front of another's is no more than that
+pub front-least : (m n : ℕ) (more : List ℕ) → decimal n ≡ decimal m ++ more → m ≤ n
+front-least m n more is =
+    omega (arith, value-least m more, value-decimal n, ap (valueFrom 0) is ∙ value-front 0 (decimal m) more ∙ ap (λ k. valueFrom k more) (value-decimal m))
 
 -- two numbers with one decimal are one number
 pub decimal-injective : (m n : ℕ) → decimal m ≡ decimal n → m ≡ n

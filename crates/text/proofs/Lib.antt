@@ -2,4 +2,7 @@
 -- and of the crates that link it.
 pub mod Writing
 pub mod Decimals
+pub mod Finding
+mod ReadDecimals
+pub mod Forms
 mod Signs

@@ -1,5 +1,7 @@
 // Lines of key=value written into a lent text. Each function writes from an index on, asks for room for
-// what it writes, and answers the index past it.
+// what it writes, and answers the index past it. Module `reading` reads them.
+pub mod reading;
+
 ghost use Prim.Native.Nat.{_+_, _%_, _<_, _≤_};
 ghost use mathlib.Core.Path.{_≡_};
 ghost use mathlib.Core.List.{[], _∷_};

@@ -1,0 +1,114 @@
+-- What the doors answer, case by case: a text read, the answer of a text, and that of a chip.
+use Prim.Native.Nat.{ℕ, _≤_}
+use mathlib.Core.Path.{_≡_, refl, sym, ap, _∙_}
+use mathlib.Core.Bool.{Bool, true, false, cond, _&&_}
+use mathlib.Core.List.{List, _++_}
+use native.Mathlib.Decide.{ℕ-discrete}
+use native.Mathlib.Omega.{arith}
+use borrow.Author.Tests.{eqb-true, eq-eqb, ne-eqb}
+use lib.Dec.{eqb, leb}
+use lib.ListN.{length, take, replicate}
+use lib.Seq.{take-take, take-append-seam, take-at}
+use Rattle.counter.specs.declared.verdict.Answer as counter
+use Rattle.counter.proofs.RangeTests.{both-hold}
+use Rattle.card.specs.declared.Read.{Read}
+use Rattle.card.specs.declared.Answer.{Answer}
+use Rattle.card.specs.declared.ChipAnswer.{ChipAnswer}
+use Rattle.card.specs.Cards.{Card, formed, Shows}
+use Rattle.card.specs.Answers.{limitFault, faultOf, refused, answerOf, chipAnswerOf}
+use Rattle.card.specs.Doors.{cardIn, places, laidOut, read, unread, readOf, Told, shown, not-shown}
+use Rattle.card.proofs.RunLaws.{fault-none}
+use Rattle.card.proofs.AnswerLaws.{answer-refused}
+
+-- a card in form is refused for its limits alone
+fault-formed : (runs : ℕ) (c : Card) → formed c ≡ true → faultOf runs c ≡ limitFault (c .allowed) runs
+unfolding faultOf
+fault-formed runs c form = rw form
+
+-- how many runs a card has
+abbrev pub runsIn : Card → ℕ
+runsIn c = length (c .speeds)
+
+module _ (c : Card) where
+  pub read-refused : (faultOf (runsIn c) c ≡ 0 → ⊥) → readOf c ≡ unread (faultOf (runsIn c) c)
+  unfolding readOf
+  read-refused fault = rw (ne-eqb (faultOf (runsIn c) c) 0 fault)
+
+  pub read-good : faultOf (runsIn c) c ≡ 0 → readOf c ≡ read 0 c
+  unfolding readOf
+  read-good none = rw (eq-eqb (faultOf (runsIn c) c) 0 none)
+
+  -- a card in form is not refused 5
+  pub read-not-5 : formed c ≡ true → readOf c .code ≡ 5 → ⊥
+  unfolding readOf limitFault
+  read-not-5 form five =
+      go (leb 1 (c .allowed) && leb (c .allowed) 1000000) (leb (runsIn c) 64) (rw (fault-formed (runsIn c) c form) at five)
+    where
+      go : (range few : Bool) → let fault : ℕ = cond range (cond few 0 4) 1 in cond (eqb fault 0) (read 0 c) (unread fault) .code ≡ 5 → ⊥
+      go true true five = omega (arith, five)
+      go true false five = omega (arith, five)
+      go false few five = omega (arith, five)
+
+-- the text of a card that is refused, and of one that is not
+module _ {text : List ℕ} {c : Card} (shows : Shows text c) {runs code : ℕ} (long : runsIn c ≡ runs) (is : code ≡ limitFault (c .allowed) runs) where
+  same-fault : code ≡ faultOf (runsIn c) c
+  same-fault = is ∙ sym (ap (limitFault (c .allowed)) long) ∙ sym (fault-formed (runsIn c) c (shows .formed))
+
+  pub told-refused : (code ≡ 0 → ⊥) → {r : Read} → r ≡ unread code → Told text readOf (unread 5) r
+  told-refused fault answers =
+      shown c shows (answers ∙ ap unread same-fault ∙ sym (read-refused c (λ none. fault (same-fault ∙ none))))
+
+  pub told-read : code ≡ 0 → {speeds turns : List ℕ} → speeds ≡ places (c .speeds) → turns ≡ places (c .turns)
+      → Told text readOf (unread 5) (record { code = 0; card = record { fitted = c .fitted; allowed = c .allowed; runs = runs; speeds = speeds; turns = turns } })
+  told-read none first second =
+      shown c shows
+      ((λ i. record { code = 0; card = record { fitted = c .fitted; allowed = c .allowed; runs = sym long i; speeds = first i; turns = second i } })
+      ∙ sym (read-good c (sym same-fault ∙ none)))
+
+-- a card that is laid out in its places is in them
+row-in : (row : List ℕ) → length row ≤ 64 → take (length row) (places row) ≡ row
+unfolding places
+row-in row few = take-take (length row) 64 (row ++ replicate 64 0) few ∙ take-append-seam row (replicate 64 0)
+
+pub card-in : (c : Card) → formed c ≡ true → runsIn c ≤ 64 → cardIn (laidOut c) ≡ c
+card-in c form few =
+    let even : length (c .turns) ≡ runsIn c = eqb-true (length (c .turns)) (runsIn c) (both-hold _ _ form .0) in
+    let turns : take (runsIn c) (places (c .turns)) ≡ c .turns = rw (sym even) (row-in (c .turns) (rw even few)) in
+    λ i. record { fitted = c .fitted; allowed = c .allowed; speeds = row-in (c .speeds) few i; turns = turns i }
+
+-- what is answered of a text, from what it was read as
+abbrev Answered : List ℕ → ℕ → Answer → Type 0
+Answered text count = Told text (λ c. answerOf (runsIn c) c count) (refused 5)
+
+module _ {text : List ℕ} {r : Read} (count : ℕ) where
+  pub answered-refused : Told text readOf (unread 5) r → (r .code ≡ 0 → ⊥) → {a : Answer} → a ≡ refused (r .code) → Answered text count a
+  answered-refused (shown c shows is) fault answers =
+      let own : faultOf (runsIn c) c ≡ 0 → ⊥ = λ none. fault (ap (λ (x : Read). x .code) (is ∙ read-good c none)) in
+      shown c shows (answers ∙ ap (λ (x : Read). refused (x .code)) (is ∙ read-refused c own) ∙ sym (answer-refused (runsIn c) c count own))
+  answered-refused (not-shown none is) fault answers = not-shown none (answers ∙ ap (λ (x : Read). refused (x .code)) is)
+
+  pub answered : Told text readOf (unread 5) r → r .code ≡ 0 → {a : Answer} → a ≡ answerOf (r .card .runs) (cardIn (r .card)) count → Answered text count a
+  answered (shown c shows is) good answers =
+      elim (ℕ-discrete (faultOf (runsIn c) c) 0) [
+        | yes none ↦
+            let (form, _, _, few) = fault-none (runsIn c) c none in
+            shown c shows
+            (answers
+            ∙ ap (λ (x : Read). answerOf (x .card .runs) (cardIn (x .card)) count) (is ∙ read-good c none)
+            ∙ ap (λ d. answerOf (runsIn c) d count) (card-in c form few))
+        | no fault ↦ absurd (fault (sym (ap (λ (x : Read). x .code) (is ∙ read-refused c fault)) ∙ good))
+      ]
+  answered (not-shown none is) good answers = absurd (omega (arith, good, ap (λ (x : Read). x .code) is))
+
+-- what is answered of a chip, from what it was read as
+module _ (runs : ℕ) (c : Card) {says found : counter.Answer} (is : says ≡ found) {a : Answer} where
+  pub chip-refused : (says .code ≡ 0 → ⊥) → a ≡ refused (faultOf runs c) → record { read = says .code; answer = a } ≡ chipAnswerOf runs c found
+  unfolding chipAnswerOf
+  chip-refused fault answers =
+      (λ i. record { read = is i .code; answer = answers i }) ∙ rw (ne-eqb (found .code) 0 (λ good. fault (ap (λ (x : counter.Answer). x .code) is ∙ good)))
+
+  pub chip-counted : says .code ≡ 0 → a ≡ answerOf runs c (says .count) → record { read = 0; answer = a } ≡ chipAnswerOf runs c found
+  unfolding chipAnswerOf
+  chip-counted good answers =
+      let good′ : found .code ≡ 0 = sym (ap (λ (x : counter.Answer). x .code) is) ∙ good in
+      (λ i. record { read = sym good′ i; answer = (answers ∙ ap (λ (x : counter.Answer). answerOf runs c (x .count)) is) i }) ∙ rw (eq-eqb (found .code) 0 good′)

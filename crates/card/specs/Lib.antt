@@ -1,0 +1,5 @@
+pub mod Cards
+pub mod Answers
+pub mod Doors
+pub mod Sums
+pub mod Inside
