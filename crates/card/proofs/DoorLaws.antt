@@ -15,7 +15,7 @@ use Rattle.card.specs.declared.Read.{Read}
 use Rattle.card.specs.declared.Answer.{Answer}
 use Rattle.card.specs.declared.ChipAnswer.{ChipAnswer}
 use Rattle.card.specs.Cards.{Card, formed, Shows}
-use Rattle.card.specs.Answers.{limitFault, faultOf, refused, answerOf, chipAnswerOf}
+use Rattle.card.specs.Answers.{limitFault, faultOf, refused, answerOf, chipRefused, chipAnswerOf}
 use Rattle.card.specs.Doors.{cardIn, places, laidOut, read, unread, readOf, Told, shown, not-shown}
 use Rattle.card.proofs.RunLaws.{fault-none}
 use Rattle.card.proofs.AnswerLaws.{answer-refused}
@@ -76,39 +76,47 @@ card-in c form few =
     let turns : take (runsIn c) (places (c .turns)) ≡ c .turns = rw (sym even) (row-in (c .turns) (rw even few)) in
     λ i. record { fitted = c .fitted; allowed = c .allowed; speeds = row-in (c .speeds) few i; turns = turns i }
 
--- what is answered of a text, from what it was read as
-abbrev Answered : List ℕ → ℕ → Answer → Type 0
-Answered text count = Told text (λ c. answerOf (runsIn c) c count) (refused 5)
-
-module _ {text : List ℕ} {r : Read} (count : ℕ) where
-  pub answered-refused : Told text readOf (unread 5) r → (r .code ≡ 0 → ⊥) → {a : Answer} → a ≡ refused (r .code) → Answered text count a
-  answered-refused (shown c shows is) fault answers =
+-- what is answered of a text, from what it was read as: by the card, or, where that is refused, by the number of the refusal
+module _ {A : Type 0} (of : ℕ → Card → A) (refuse : ℕ → A) (refuses : (runs : ℕ) (c : Card) → (faultOf runs c ≡ 0 → ⊥) → of runs c ≡ refuse (faultOf runs c))
+    {text : List ℕ} {r : Read} where
+  pub told-not : Told text readOf (unread 5) r → (r .code ≡ 0 → ⊥) → {a : A} → a ≡ refuse (r .code) → Told text (λ c. of (runsIn c) c) (refuse 5) a
+  told-not (shown c shows is) fault answers =
       let own : faultOf (runsIn c) c ≡ 0 → ⊥ = λ none. fault (ap (λ (x : Read). x .code) (is ∙ read-good c none)) in
-      shown c shows (answers ∙ ap (λ (x : Read). refused (x .code)) (is ∙ read-refused c own) ∙ sym (answer-refused (runsIn c) c count own))
-  answered-refused (not-shown none is) fault answers = not-shown none (answers ∙ ap (λ (x : Read). refused (x .code)) is)
+      shown c shows (answers ∙ ap (λ (x : Read). refuse (x .code)) (is ∙ read-refused c own) ∙ sym (refuses (runsIn c) c own))
+  told-not (not-shown none is) fault answers = not-shown none (answers ∙ ap (λ (x : Read). refuse (x .code)) is)
 
-  pub answered : Told text readOf (unread 5) r → r .code ≡ 0 → {a : Answer} → a ≡ answerOf (r .card .runs) (cardIn (r .card)) count → Answered text count a
-  answered (shown c shows is) good answers =
+  pub told-by : Told text readOf (unread 5) r → r .code ≡ 0 → {a : A} → a ≡ of (r .card .runs) (cardIn (r .card))
+      → Told text (λ c. of (runsIn c) c) (refuse 5) a
+  told-by (shown c shows is) good answers =
       elim (ℕ-discrete (faultOf (runsIn c) c) 0) [
         | yes none ↦
             let (form, _, _, few) = fault-none (runsIn c) c none in
             shown c shows
             (answers
-            ∙ ap (λ (x : Read). answerOf (x .card .runs) (cardIn (x .card)) count) (is ∙ read-good c none)
-            ∙ ap (λ d. answerOf (runsIn c) d count) (card-in c form few))
+            ∙ ap (λ (x : Read). of (x .card .runs) (cardIn (x .card))) (is ∙ read-good c none)
+            ∙ ap (of (runsIn c)) (card-in c form few))
         | no fault ↦ absurd (fault (sym (ap (λ (x : Read). x .code) (is ∙ read-refused c fault)) ∙ good))
       ]
-  answered (not-shown none is) good answers = absurd (omega (arith, good, ap (λ (x : Read). x .code) is))
+  told-by (not-shown none is) good answers = absurd (omega (arith, good, ap (λ (x : Read). x .code) is))
 
 -- what is answered of a chip, from what it was read as
 module _ (runs : ℕ) (c : Card) {says found : counter.Answer} (is : says ≡ found) {a : Answer} where
   pub chip-refused : (says .code ≡ 0 → ⊥) → a ≡ refused (faultOf runs c) → record { read = says .code; answer = a } ≡ chipAnswerOf runs c found
   unfolding chipAnswerOf
   chip-refused fault answers =
-      (λ i. record { read = is i .code; answer = answers i }) ∙ rw (ne-eqb (found .code) 0 (λ good. fault (ap (λ (x : counter.Answer). x .code) is ∙ good)))
+      rw (ne-eqb (found .code) 0 (λ good. fault (ap (λ (x : counter.Answer). x .code) is ∙ good))) (λ i. record { read = is i .code; answer = answers i })
 
   pub chip-counted : says .code ≡ 0 → a ≡ answerOf runs c (says .count) → record { read = 0; answer = a } ≡ chipAnswerOf runs c found
   unfolding chipAnswerOf
   chip-counted good answers =
-      let good′ : found .code ≡ 0 = sym (ap (λ (x : counter.Answer). x .code) is) ∙ good in
-      (λ i. record { read = sym good′ i; answer = (answers ∙ ap (λ (x : counter.Answer). answerOf runs c (x .count)) is) i }) ∙ rw (eq-eqb (found .code) 0 good′)
+      rw (eq-eqb (found .code) 0 (sym (ap (λ (x : counter.Answer). x .code) is) ∙ good))
+      (λ i. record { read = 0; answer = (answers ∙ ap (λ (x : counter.Answer). answerOf runs c (x .count)) is) i })
+
+-- of a card that is refused the read's code stands beside its number, whatever the count is
+pub chip-own : (found : counter.Answer) (runs : ℕ) (c : Card) → (faultOf runs c ≡ 0 → ⊥) → chipAnswerOf runs c found ≡ chipRefused found (faultOf runs c)
+unfolding chipAnswerOf
+chip-own found runs c fault =
+    elim (ℕ-discrete (found .code) 0) [
+      | yes good ↦ rw (eq-eqb (found .code) 0 good) (λ i. record { read = sym good i; answer = answer-refused runs c (found .count) fault i })
+      | no refused ↦ rw (ne-eqb (found .code) 0 refused)
+    ]

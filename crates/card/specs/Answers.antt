@@ -49,7 +49,10 @@ usedOf c count =
 unfoldable pub answerOf : ℕ → Card → ℕ → Answer
 answerOf runs c count = cond (eqb (faultOf runs c) 0) (usedOf c count) (refused (faultOf runs c))
 
--- the same at the count that a chip was read as. Where the read was refused, its code stands beside the card's own, and the rest is 0
+-- the same at the count that a chip was read as. Where the read is refused its code stands beside the card's own, and the rest is 0
+abbrev pub chipRefused : counter.Answer → ℕ → ChipAnswer
+chipRefused found code = record { read = found .code; answer = refused code }
+
 unfoldable pub chipAnswerOf : ℕ → Card → counter.Answer → ChipAnswer
-chipAnswerOf runs c read =
-    record { read = read .code; answer = cond (eqb (read .code) 0) (answerOf runs c (read .count)) (refused (faultOf runs c)) }
+chipAnswerOf runs c found =
+    cond (eqb (found .code) 0) (record { read = 0; answer = answerOf runs c (found .count) }) (chipRefused found (faultOf runs c))

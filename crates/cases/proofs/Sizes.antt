@@ -1,4 +1,4 @@
--- A chip has 512 cells and 512 lives, and a text has 512 signs: what owning one tells of its arrays.
+-- A chip has 512 cells and 512 lives, and a text has 1706 signs: what owning one tells of its arrays.
 use mathlib.Core.Path.{sym, _∙_}
 use mathlib.Core.List.{List}
 use Prim.Native.Nat.{ℕ, _≤_}
@@ -17,5 +17,5 @@ image-holds chip tells h = omega (arith, h, sym (length-map (chip .image) _) ∙
 pub lives-hold : {n : ℕ} (chip : Chip) {vs : List Val} → Is chips.the-row chip vs → n ≤ 512 → n ≤ length (chip .lives)
 lives-hold chip tells h = omega (arith, h, sym (length-map (chip .lives) _) ∙ tells .1 .1 .1 .0 .1 .0 .1)
 
-pub signs-hold : {n : ℕ} (text : Text) {vs : List Val} → Is texts.the-row text vs → n ≤ 512 → n ≤ length (text .signs)
+pub signs-hold : {n : ℕ} (text : Text) {vs : List Val} → Is texts.the-row text vs → n ≤ 1706 → n ≤ length (text .signs)
 signs-hold text tells h = omega (arith, h, sym (length-map (text .signs) _) ∙ tells .1 .1 .0 .1 .0 .1)

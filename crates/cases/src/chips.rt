@@ -1,11 +1,13 @@
 // The chips of the cases: made blank, opened, set and worn, and what the doors make of them. A chip goes by value, which
 // costs the check of a case far less than lent cells and lives do.
 ghost use Prim.Native.Nat.{_≤_};
+use card::Card;
+use card::ChipAnswer;
 use counter::doors;
 use counter::doors::ReadAnswer;
 use counter::verdict::Answer;
 
-// The cells of the largest chip, and the signs of the longest text.
+// The cells of the largest chip.
 pub const LARGEST: usize = 512;
 
 const BLANK: u8 = 0xFF;
@@ -64,7 +66,7 @@ pub(crate) fn wear(mut chip: Chip, at: usize) -> Chip {
     chip
 }
 
-// No chip has more cells than the largest, and no text more signs than the longest.
+// No chip has more cells than the largest.
 pub(crate) fn at_most_largest(size: usize) -> usize
     ensures { λ r. ⌜ r ≤ 512 ⌝ }
 {
@@ -110,6 +112,13 @@ pub(crate) fn read(chip: Chip) -> ReadAnswer {
     let image = chip.image;
     let n = at_most_largest(chip.size);
     doors::read(&image[..n], chip.map, chip.start, chip.end)
+}
+
+// What a card answers at a chip's count.
+pub(crate) fn answer(card: Card, chip: Chip) -> ChipAnswer {
+    let image = chip.image;
+    let n = at_most_largest(chip.size);
+    card::answer_of_chip(card, &image[..n], chip.map, chip.start, chip.end)
 }
 
 // A blank chip opened, with the map's place and the area's first cell of every case that does not say another.

@@ -124,3 +124,44 @@ pub(crate) fn say_taken(name: &[u8], answer: hex::Answer, written: bool, kept: b
     print_number(b" kept=", kept as u64);
     io::write_all(STDOUT_FILENO, b"\n");
 }
+
+fn print_card(name: &[u8], answer: card::Written) {
+    io::write_all(STDOUT_FILENO, name);
+    print_number(b": code=", answer.code as u64);
+    print_number(b" length=", answer.length as u64);
+}
+
+pub(crate) fn say_card(name: &[u8], answer: card::Written) {
+    print_card(name, answer);
+    io::write_all(STDOUT_FILENO, b"\n");
+}
+
+// With whether the text is the one that the card was read from.
+pub(crate) fn say_again(name: &[u8], answer: card::Written, same: bool) {
+    print_card(name, answer);
+    print_number(b" same=", same as u64);
+    io::write_all(STDOUT_FILENO, b"\n");
+}
+
+// Ends the line of what a card answers.
+fn print_turns(answer: card::Answer) {
+    print_number(b" used=", answer.used as u64);
+    print_signed(b" left=", answer.left);
+    print_number(b" time=", answer.time);
+    io::write_all(STDOUT_FILENO, b"\n");
+}
+
+pub(crate) fn say_answer(name: &[u8], answer: card::Answer) {
+    io::write_all(STDOUT_FILENO, name);
+    print_number(b": code=", answer.code as u64);
+    print_turns(answer);
+}
+
+// With the code of the chip's read.
+pub(crate) fn say_chip(name: &[u8], told: card::ChipAnswer) {
+    let answer = told.answer;
+    io::write_all(STDOUT_FILENO, name);
+    print_number(b": read=", told.read as u64);
+    print_number(b" code=", answer.code as u64);
+    print_turns(answer);
+}

@@ -1,6 +1,7 @@
 // Runs bench cases 14 to 17, cases that are easy to get wrong, and those of later requests, and prints a line for each answer,
 // which is held to `stdout`.
 mod bench;
+mod cards;
 mod chips;
 mod edges;
 mod erased;
@@ -15,4 +16,5 @@ fn main() {
     mended::cases();
     hexes::cases();
     erased::cases();
+    cards::cases();
 }

@@ -9,7 +9,7 @@ use Rattle.cases.proofs.texts.read.Tie as tie
 array-share-prefix-signs : tie.Need-array-share-prefix-signs
 array-share-prefix-signs c =
     let start = c .before .before .before .before in
-    signs-hold (start .args .text) (start .good .0) (c .at-most-largest2 .ensures)
+    signs-hold (start .args .text) (start .good .0) (c .at-most-longest .ensures)
 
 slice-aggregate-read-image : tie.Need-slice-aggregate-read-image
 slice-aggregate-read-image c = sym (length-take-le _ _ (array-share-prefix-signs (c .before)))
