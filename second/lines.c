@@ -1,6 +1,7 @@
 /* The lines that crates/cases prints, worked out by the second maker: chips of document 01's bench list, chips that are easy to
    get wrong, and those of later requests. The map is at 1 and the area starts at 25 where a case does not say otherwise. */
 
+#include "card.h"
 #include "hex.h"
 #include "second.h"
 
@@ -339,6 +340,134 @@ static void erased(void)
     say("P3 FF 61, cell 128 worn, step", answer, 3, 122);
 }
 
+/* Document 02, P4. Most cases are of one card, or of its text. */
+#define HEAD(allowed, runs) "fitted=100\nallowed=" allowed "\nruns=" runs "\n"
+#define RUNS "speed=33\nturns=10\nspeed=45\nturns=3\n"
+#define ALLOWING(allowed) HEAD(allowed, "2") RUNS
+#define CARD ALLOWING("5000")
+#define RUN "speed=33\nturns=1\n"
+
+static const uint32_t card_speeds[2] = {33, 45}, card_turns[2] = {10, 3};
+
+static void print_card(const char *name, second_text answer)
+{
+    printf("%s: code=%" PRIu32 " length=%" PRIu64, name, answer.code, answer.length);
+}
+
+static void say_rows(const char *name, const uint32_t *speeds, size_t speeds_n, const uint32_t *turns, size_t turns_n, size_t room)
+{
+    print_card(name, second_card_write(100, 5000, speeds, speeds_n, turns, turns_n, text, room));
+    printf("\n");
+}
+
+static void print_turns(second_card answer)
+{
+    printf(" code=%" PRIu32 " used=%" PRIu32 " left=%" PRId64 " time=%" PRIu64 "\n", answer.code, answer.used, answer.left,
+           answer.time);
+}
+
+static void say_at(const char *name, const void *card, size_t length, uint32_t count)
+{
+    printf("%s:", name);
+    print_turns(second_card_at(card, length, count));
+}
+
+static void say_card(const char *name, const char *card, uint32_t count)
+{
+    say_at(name, card, strlen(card), count);
+}
+
+static void written_card(void)
+{
+    say_rows("P4 room 65, write", card_speeds, 2, card_turns, 2, 65);
+    say_rows("P4 room 66, write", card_speeds, 2, card_turns, 2, 66);
+    say_at("P4 count 113, answer", text, 66, 113);
+    say_at("P4 count 99, answer", text, 66, 99);
+    say_at("P4 count 112, answer", text, 66, 112);
+    say_at("P4 count 114, answer", text, 66, 114);
+}
+
+/* What the text says, written again: it has to be that text. */
+static void read_back(void)
+{
+    second_text again = second_card_write(100, 5000, card_speeds, 2, card_turns, 2, text, 66);
+    print_card("P4 read back, write", again);
+    printf(" same=%d\n", again.length == strlen(CARD) && memcmp(text, CARD, strlen(CARD)) == 0);
+}
+
+static void allowances(void)
+{
+    say_card("P4 allowed 12, count 113, answer", ALLOWING("12"), 113);
+    say_card("P4 no runs, count 100, answer", HEAD("5000", "0"), 100);
+    say_card("P4 allowed 0, count 113, answer", ALLOWING("0"), 113);
+    say_card("P4 allowed 1000000, count 113, answer", ALLOWING("1000000"), 113);
+    say_card("P4 allowed 1000001, count 113, answer", ALLOWING("1000001"), 113);
+    say_card("P4 allowed 4294967296, count 113, answer", ALLOWING("4294967296"), 113);
+}
+
+/* A text of 64 runs alike and one more, or none. */
+static void say_many(const char *name, const char *head, const char *run, const char *last, uint32_t count)
+{
+    char card[2048];
+    strcpy(card, head);
+    for (int i = 0; i < 64; i++)
+        strcat(card, run);
+    strcat(card, last);
+    say_card(name, card, count);
+}
+
+static void many_runs(void)
+{
+    say_many("P4 64 runs, count 164, answer", HEAD("5000", "64"), RUN, "", 164);
+    say_many("P4 64 runs of 4294967295, count 113, answer", HEAD("5000", "64"), "speed=33\nturns=4294967295\n", "", 113);
+    say_many("P4 65 runs, count 165, answer", HEAD("5000", "65"), RUN, RUN, 165);
+    say_many("P4 65 runs, the last at 78, count 165, answer", HEAD("5000", "65"), RUN, "speed=78\nturns=1\n", 165);
+    say_many("P4 65 runs, allowed 0, count 165, answer", HEAD("0", "65"), RUN, RUN, 165);
+}
+
+static void malformed_cards(void)
+{
+    say_card("P4 leading zero, count 113, answer", ALLOWING("05000"), 113);
+    say_card("P4 byte behind the text, count 113, answer", CARD "\n", 113);
+    say_at("P4 last line feed missing, count 113, answer", CARD, strlen(CARD) - 1, 113);
+}
+
+/* A card that says 65 runs is to the second maker rows of 65. */
+static void rows(void)
+{
+    static const uint32_t other[1] = {78};
+    uint32_t speeds[65], turns[65];
+    for (int i = 0; i < 65; i++) {
+        speeds[i] = 33;
+        turns[i] = 1;
+    }
+    say_rows("P4 speed 78, write", other, 1, card_turns, 1, sizeof text);
+    say_rows("P4 rows of 2 and 1, write", card_speeds, 2, card_turns, 1, sizeof text);
+    say_rows("P4 65 runs, write", speeds, 65, turns, 65, sizeof text);
+    say_rows("P4 a card that says 65 runs, write", speeds, 65, turns, 65, sizeof text);
+}
+
+/* A chip that is refused has no count. What the card is refused for by itself then shows where its runs add up. */
+static void say_chip(const char *name, const char *card)
+{
+    second_answer read = read_it();
+    uint32_t count = read.code == 0 ? read.count : 4294967294;
+    second_card answer = second_card_at((const uint8_t *)card, strlen(card), count);
+    if (read.code != 0)
+        answer = (second_card){.code = answer.code};
+    printf("%s: read=%" PRIu32, name, read.code);
+    print_turns(answer);
+}
+
+static void cards_on_chips(void)
+{
+    near_the_end();
+    say_chip("P4 chip at 4294967294, answer", "fitted=4294967281\nallowed=5000\nruns=2\n" RUNS);
+    image[1] = 0xFF;
+    say_chip("P4 chip, mark gone, answer", "fitted=4294967281\nallowed=5000\nruns=2\n" RUNS);
+    say_chip("P4 chip, mark gone, allowed 0, answer", "fitted=4294967281\nallowed=0\nruns=2\n" RUNS);
+}
+
 int main(void)
 {
     bench_list();
@@ -352,5 +481,12 @@ int main(void)
     faulty_records();
     missing_parts_and_sizes();
     erased();
+    written_card();
+    read_back();
+    allowances();
+    many_runs();
+    malformed_cards();
+    rows();
+    cards_on_chips();
     return 0;
 }

@@ -1,23 +1,25 @@
 -- What the doors answer, case by case: a text read, the answer of a text, and that of a chip.
-use Prim.Native.Nat.{ℕ, _≤_}
+use Prim.Native.Nat.{ℕ, _≤_, _<_, min}
 use mathlib.Core.Path.{_≡_, refl, sym, ap, _∙_}
 use mathlib.Core.Bool.{Bool, true, false, cond, _&&_}
-use mathlib.Core.List.{List, _++_}
-use native.Mathlib.Decide.{ℕ-discrete}
+use mathlib.Core.List.{List}
+use native.Mathlib.Decide.{decLe, ℕ-discrete}
 use native.Mathlib.Omega.{arith}
-use borrow.Author.Tests.{eqb-true, eq-eqb, ne-eqb}
+use borrow.Author.Tests.{eq-eqb, ne-eqb}
 use lib.Dec.{eqb, leb}
-use lib.ListN.{length, take, replicate}
-use lib.Seq.{take-take, take-append-seam, take-at}
+use lib.ListN.{length, take, length-take}
 use Rattle.counter.specs.declared.verdict.Answer as counter
-use Rattle.counter.proofs.RangeTests.{both-hold}
 use Rattle.card.specs.declared.Read.{Read}
 use Rattle.card.specs.declared.Answer.{Answer}
 use Rattle.card.specs.declared.ChipAnswer.{ChipAnswer}
-use Rattle.card.specs.Cards.{Card, formed, Shows}
+use Rattle.card.specs.Cards.{Card, card, formed, Shows}
+use Rattle.card.specs.Inside.{CardAt}
+use Rattle.card.specs.declared.reading.Head.{Head}
 use Rattle.card.specs.Answers.{limitFault, faultOf, refused, answerOf, chipRefused, chipAnswerOf}
 use Rattle.card.specs.Doors.{cardIn, places, laidOut, read, unread, readOf, Told, shown, not-shown}
-use Rattle.card.proofs.RunLaws.{fault-none}
+use Rattle.card.proofs.RunLaws.{in-form, fault-none}
+use Rattle.card.proofs.RowLaws.{row-in, row-cut, speeds-take}
+use Rattle.counter.proofs.RangeTests.{hold-both}
 use Rattle.card.proofs.AnswerLaws.{answer-refused}
 
 -- a card in form is refused for its limits alone
@@ -66,15 +68,47 @@ module _ {text : List ℕ} {c : Card} (shows : Shows text c) {runs code : ℕ} (
       ∙ sym (read-good c (sym same-fault ∙ none)))
 
 -- a card that is laid out in its places is in them
-row-in : (row : List ℕ) → length row ≤ 64 → take (length row) (places row) ≡ row
-unfolding places
-row-in row few = take-take (length row) 64 (row ++ replicate 64 0) few ∙ take-append-seam row (replicate 64 0)
-
 pub card-in : (c : Card) → formed c ≡ true → runsIn c ≤ 64 → cardIn (laidOut c) ≡ c
 card-in c form few =
-    let even : length (c .turns) ≡ runsIn c = eqb-true (length (c .turns)) (runsIn c) (both-hold _ _ form .0) in
+    let even = in-form c form .0 in
     let turns : take (runsIn c) (places (c .turns)) ≡ c .turns = rw (sym even) (row-in (c .turns) (rw even few)) in
     λ i. record { fitted = c .fitted; allowed = c .allowed; speeds = row-in (c .speeds) few i; turns = turns i }
+
+-- a card with more runs than places is refused, as are the runs in its places
+cut-fault : (c : Card) → formed c ≡ true → 64 < runsIn c
+    → faultOf (runsIn c) (card (c .fitted) (c .allowed) (take 64 (places (c .speeds))) (take 64 (places (c .turns)))) ≡ faultOf (runsIn c) c
+cut-fault c form many =
+    let (even, all) = in-form c form in
+    let speeds = row-cut (c .speeds) (omega arith) in
+    let turns = row-cut (c .turns) (omega arith) in
+    let lengths : length (take 64 (c .turns)) ≡ length (take 64 (c .speeds)) = omega (arith, length-take 64 (c .turns), length-take 64 (c .speeds)) in
+    let cut = card (c .fitted) (c .allowed) (take 64 (c .speeds)) (take 64 (c .turns)) in
+    rw (speeds, turns)
+    (fault-formed (runsIn c) cut (hold-both _ _ (eq-eqb (length (cut .turns)) (length (cut .speeds)) lengths) (speeds-take 64 (c .speeds) all))
+    ∙ sym (fault-formed (runsIn c) c form))
+
+-- what a card answers whose runs are in their places
+answer-laid : (c : Card) (held count : ℕ) → formed c ≡ true → held ≡ min (runsIn c) 64
+    → answerOf (runsIn c) (card (c .fitted) (c .allowed) (take held (places (c .speeds))) (take held (places (c .turns)))) count ≡ answerOf (runsIn c) c count
+answer-laid c held count form is =
+    elim (decLe (runsIn c) 64) [
+      | yes few ↦
+          let all : held ≡ runsIn c = omega arith in
+          rw all (ap (λ d. answerOf (runsIn c) d count) (card-in c form few))
+      | no many ↦
+          let cut : held ≡ 64 = omega arith in
+          let same = cut-fault c form (omega arith) in
+          let own : faultOf (runsIn c) c ≡ 0 → ⊥ = λ none. many (fault-none (runsIn c) c none .3) in
+          rw cut
+          (answer-refused (runsIn c) _ count (λ none. own (sym same ∙ none)) ∙ ap refused same ∙ sym (answer-refused (runsIn c) c count own))
+    ]
+
+pub told-answer : {text speeds turns : List ℕ} {head : Head} {held : ℕ} (count : ℕ) → CardAt text head speeds turns → held ≡ min (head .runs) 64
+    → {a : Answer} → a ≡ answerOf (head .runs) (card (head .fitted) (head .allowed) (take held speeds) (take held turns)) count
+    → Told text (λ c. answerOf (runsIn c) c count) (refused 5) a
+told-answer {head = head} {held = held} count at is answers =
+    let c = card (head .fitted) (head .allowed) (at .rows .0) (at .rows .1) in
+    shown c (at .shows) (answers ∙ rw (at .speeds-laid, at .turns-laid, ← at .long) (answer-laid c held count (at .shows .formed) (rw (at .long) is)))
 
 -- what is answered of a text, from what it was read as: by the card, or, where that is refused, by the number of the refusal
 module _ {A : Type 0} (of : ℕ → Card → A) (refuse : ℕ → A) (refuses : (runs : ℕ) (c : Card) → (faultOf runs c ≡ 0 → ⊥) → of runs c ≡ refuse (faultOf runs c))

@@ -7,11 +7,10 @@ use native.Mathlib.Decide.{decLe, ℕ-discrete}
 use native.Mathlib.Nat.{sub-zero}
 use native.Mathlib.Omega.{arith}
 use lib.ListN.{length, take, drop, getD, set, replicate, length-append, length-take, length-set, length-replicate, getD-replicate, List·getD-append, List·getD-eq-default}
-use lib.Seq.{take-all, getD-take, getD-append-add, getD-append-seam, getD-set-same, getD-set-other, ext-getD}
+use lib.Seq.{take-take, take-append-seam, take-append-le, getD-take, getD-append-add, getD-append-seam, getD-set-same, getD-set-other, ext-getD}
 use Rattle.text.specs.Reading.{Found}
 use Rattle.text.proofs.Forms.{found-within}
 use Rattle.counter.proofs.RangeTests.{both-hold, hold-both}
-use Rattle.card.specs.declared.reading.Rows.{Rows}
 use Rattle.card.specs.Cards.{runTexts, isSpeed, allSpeeds}
 use Rattle.card.specs.Doors.{places}
 use Rattle.card.specs.Inside.{runForm, IsRun, rowsForm, AreRuns, RowsAt}
@@ -21,10 +20,6 @@ use Rattle.card.proofs.ReadLaws.{run-ends}
 pub length-places : (row : List ℕ) → length (places row) ≡ 64
 unfolding places
 length-places row = omega (arith, length-take 64 (row ++ replicate 64 0), length-append row (replicate 64 0), length-replicate {A = ℕ} 64 0)
-
-pub places-none : replicate 64 0 ≡ places []
-unfolding places
-places-none = refl
 
 place-at : (row : List ℕ) (k : ℕ) → k < 64 → getD (places row) k 0 ≡ getD row k 0
 unfolding places
@@ -37,6 +32,15 @@ place-at row k inside = getD-take 64 (row ++ replicate 64 0) k 0 inside ∙ elim
       ∙ sym (List·getD-eq-default row 0 past)
   | no notPast ↦ List·getD-append row (replicate 64 0) 0 k (omega arith)
 ]
+
+-- the places of a short row, and of a long one
+pub row-in : (row : List ℕ) → length row ≤ 64 → take (length row) (places row) ≡ row
+unfolding places
+row-in row few = take-take (length row) 64 (row ++ replicate 64 0) few ∙ take-append-seam row (replicate 64 0)
+
+pub row-cut : (row : List ℕ) → 64 ≤ length row → take 64 (places row) ≡ take 64 row
+unfolding places
+row-cut row many = take-take 64 64 (row ++ replicate 64 0) (omega arith) ∙ take-append-le 64 row (replicate 64 0) many
 
 -- one more, where there is a place for it
 pub places-more : (row : List ℕ) (value : ℕ) → set (places row) (length row) value ≡ places (row ++ (value ∷ []))
@@ -74,6 +78,15 @@ pub first-form : (speed turn : ℕ) (speeds turns rest : List ℕ)
     → rowsForm (speed ∷ speeds, turn ∷ turns) ++ rest ≡ runForm (speed, turn) ++ (rowsForm (speeds, turns) ++ rest)
 unfolding runTexts flatten
 first-form speed turn speeds turns rest = append-assoc (runForm (speed, turn)) (rowsForm (speeds, turns)) rest
+
+-- the first of some speeds
+pub speeds-take : (n : ℕ) (speeds : List ℕ) → allSpeeds speeds ≡ true → allSpeeds (take n speeds) ≡ true
+unfolding allSpeeds
+speeds-take zero speeds all = refl
+speeds-take (suc n) [] all = refl
+speeds-take (suc n) (speed ∷ speeds) all =
+    let (right, rest) = both-hold (isSpeed speed) (allSpeeds speeds) all in
+    hold-both (isSpeed speed) (allSpeeds (take n speeds)) right (speeds-take n speeds rest)
 
 -- one run behind others
 speeds-more : (speeds : List ℕ) (speed : ℕ) → allSpeeds speeds ≡ true → isSpeed speed ≡ true → allSpeeds (speeds ++ (speed ∷ [])) ≡ true
@@ -125,7 +138,7 @@ pub record Passed (text : List ℕ) (at runs done next : ℕ) (speeds turns : Li
   pub turns-laid : turns ≡ places (rows .1)
 
 -- none at first
-pub passed-none : {text : List ℕ} {at runs : ℕ} → 0 < at → at ≤ length text → Passed text at runs 0 at (replicate 64 0) (replicate 64 0)
+pub passed-none : {text : List ℕ} {at runs : ℕ} → 0 < at → at ≤ length text → Passed text at runs 0 at (places []) (places [])
 unfolding runTexts flatten allSpeeds
 passed-none {runs = runs} some within = record {
   most = omega arith;
@@ -136,8 +149,8 @@ passed-none {runs = runs} some within = record {
   ends = omega arith;
   stands = refl;
   behind = λ all are rest is. (all, rw (sub-zero runs) are, is);
-  speeds-laid = places-none;
-  turns-laid = places-none;
+  speeds-laid = refl;
+  turns-laid = refl;
 }
 
 module _ {text : List ℕ} {at runs done next : ℕ} {speeds turns : List ℕ} (passed : Passed text at runs done next speeds turns) where
@@ -159,7 +172,7 @@ module _ {text : List ℕ} {at runs done next : ℕ} {speeds turns : List ℕ} (
 
   module _ (more : done < runs) {run : ℕ × ℕ} {past : ℕ} (found : Found runForm IsRun text next run past) where
     -- no run stands there
-    pub passed-stuck : past ≡ 0 → RowsAt text at runs (record { next = 0; speeds = speeds; turns = turns })
+    pub passed-stuck : past ≡ 0 → RowsAt text at runs 0 speeds turns
     passed-stuck none = record {
       rows = passed .rows;
       found = record {
@@ -168,8 +181,8 @@ module _ {text : List ℕ} {at runs done next : ℕ} {speeds turns : List ℕ} (
             let (run, others, right, _, stands) = next-run more all are rest is in
             found .none none run right (rowsForm others ++ rest) stands;
       };
-      speeds = λ some. absurd (omega arith);
-      turns = λ some. absurd (omega arith);
+      speeds-laid = λ some. absurd (omega arith);
+      turns-laid = λ some. absurd (omega arith);
     }
 
     -- a run stands there
@@ -201,12 +214,12 @@ module _ {text : List ℕ} {at runs done next : ℕ} {speeds turns : List ℕ} (
             (others, are, run-ends .same run other (drop past text) (rowsForm others ++ rest) right right′ (sym stands ∙ is) .1)
 
   -- all were read
-  pub passed-all : runs ≤ done → RowsAt text at runs (record { next = next; speeds = speeds; turns = turns })
+  pub passed-all : runs ≤ done → RowsAt text at runs next speeds turns
   passed-all least =
       let all : done ≡ runs = omega (arith, passed .most) in
       record {
         rows = passed .rows;
         found = record { there = λ some. (rw all at (passed .are), passed .ends, passed .stands); none = λ zero. absurd (omega (arith, passed .some)) };
-        speeds = λ _. passed .speeds-laid;
-        turns = λ _. passed .turns-laid;
+        speeds-laid = λ _. passed .speeds-laid;
+        turns-laid = λ _. passed .turns-laid;
       }

@@ -6,8 +6,8 @@ use mathlib.Core.List.{List, [], _∷_}
 use native.Mathlib.Nat.{le-of-suc-le-suc}
 use native.Mathlib.Numerals.{add-one}
 use native.Mathlib.Omega.{arith}
-use borrow.Author.Tests.{leb-true}
-use lib.Dec.{leb}
+use borrow.Author.Tests.{eqb-true, leb-true}
+use lib.Dec.{eqb, leb}
 use lib.ListN.{length, drop, getD, drop-of-length-le}
 use lib.Seq.{drop-cons}
 use Rattle.card.specs.Cards.{Card, isSpeed, allSpeeds, formed, runText, runTexts}
@@ -68,6 +68,12 @@ text-at [] turns k even inside = absurd (omega arith)
 text-at (speed ∷ speeds) [] k even inside = absurd (omega arith)
 text-at (speed ∷ speeds) (turn ∷ turns) zero even inside = refl
 text-at (speed ∷ speeds) (turn ∷ turns) (suc k) even inside = text-at speeds turns k (omega arith) (le-of-suc-le-suc inside)
+
+-- a card in form
+pub in-form : (c : Card) → formed c ≡ true → (length (c .turns) ≡ length (c .speeds)) × (allSpeeds (c .speeds) ≡ true)
+in-form c form =
+    let (even, all) = both-hold (eqb (length (c .turns)) (length (c .speeds))) (allSpeeds (c .speeds)) form in
+    (eqb-true (length (c .turns)) (length (c .speeds)) even, all)
 
 -- a card that is not refused
 pub fault-none : (runs : ℕ) (c : Card) → faultOf runs c ≡ 0 → (formed c ≡ true) × (1 ≤ c .allowed) × (c .allowed ≤ 1000000) × (runs ≤ 64)

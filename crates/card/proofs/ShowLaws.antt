@@ -5,13 +5,15 @@ use mathlib.Core.Bool.{true}
 use mathlib.Core.List.{List, [], _∷_, _++_, append-nil, append-assoc, flatten}
 use native.Mathlib.Decide.{decLe}
 use native.Mathlib.Omega.{arith}
-use borrow.Author.Tests.{eqb-true, eq-eqb}
+use borrow.Author.Tests.{eq-eqb}
 use lib.ListN.{length, drop, getD, drop-of-length-le, length-drop}
 use Rattle.text.specs.Reading.{Found, both, Both}
 use Rattle.text.proofs.Forms.{Ends, ends-then, found-within, found-first, found-then}
-use Rattle.counter.proofs.RangeTests.{both-hold, hold-both}
+use Rattle.counter.proofs.RangeTests.{hold-both}
 use Rattle.card.specs.Cards.{Card, card, runTexts, textOf, Fits, Shows}
-use Rattle.card.specs.Inside.{headForm, SmallHead, runForm, rowsForm, AreRuns}
+use Rattle.card.specs.Inside.{headForm, SmallHead, runForm, rowsForm, AreRuns, RowsAt, WholeAt}
+use Rattle.card.specs.declared.reading.Head.{Head}
+use Rattle.card.proofs.RunLaws.{in-form}
 use Rattle.card.proofs.ReadLaws.{head-ends, run-ends}
 use Rattle.card.proofs.RowLaws.{first-are, first-form}
 
@@ -60,11 +62,11 @@ whole-ends = ends-then headForm SmallHead (λ head. rowsForm) (λ head. AreRuns 
 whole-shown : {text : List ℕ} {c : Card} → Shows text c → Whole (partsOf c) × (text ≡ wholeForm (partsOf c) ++ [])
 unfolding textOf
 whole-shown {text} {c} shows =
-    let (even, all) = both-hold _ _ (shows .formed) in
+    let (even, all) = in-form c (shows .formed) in
     let fits = shows .fits in (
       (
         ((fits .fitted, fits .allowed), fits .runs),
-        record { speeds = refl; turns = eqb-true (length (c .turns)) (length (c .speeds)) even; right = all; small = fits .turns },
+        record { speeds = refl; turns = even; right = all; small = fits .turns },
       ),
       shows .written ∙ sym (append-nil (textOf c)),
     )
@@ -83,7 +85,7 @@ shows-one {text} {c} {d} one two =
 
 -- what was read from the start of a text, and the card that it shows, or that it shows none
 module _ {text : List ℕ} {fitted allowed runs next : ℕ} (head : Found headForm SmallHead text 0 ((fitted, allowed), runs) next) where
-  pub no-head : next ≡ 0 → (c : Card) → Shows text c → ⊥
+  no-head : next ≡ 0 → (c : Card) → Shows text c → ⊥
   no-head none c shows =
       let (whole, is) = whole-shown shows in
       head .none none (partsOf c .0) (whole .0) (rowsForm (c .speeds, c .turns) ++ [])
@@ -94,7 +96,7 @@ module _ {text : List ℕ} {fitted allowed runs next : ℕ} (head : Found headFo
     whole-found = found-then headForm SmallHead (λ head. rowsForm) (λ head. AreRuns (head .1)) head head-ends some found
 
     -- all of the text was read
-    pub shown : past ≡ length text → Shows text (card fitted allowed (rows .0) (rows .1)) × (length (rows .0) ≡ runs)
+    shown : past ≡ length text → Shows text (card fitted allowed (rows .0) (rows .1)) × (length (rows .0) ≡ runs)
     shown end =
         let (whole, _, is) = whole-found .there (omega (arith, found-within head zero-le some)) in
         let are = whole .1 in
@@ -111,7 +113,7 @@ module _ {text : List ℕ} {fitted allowed runs next : ℕ} (head : Found headFo
         as-text same = append-nil (wholeForm (((fitted, allowed), runs), rows)) ∙ text-form fitted allowed runs rows same
 
     -- not all of it was
-    pub not-all : (past ≡ length text → ⊥) → (c : Card) → Shows text c → ⊥
+    not-all : (past ≡ length text → ⊥) → (c : Card) → Shows text c → ⊥
     not-all other c shows =
         let (whole, is) = whole-shown shows in
         elim (decLe 1 past) [
@@ -121,3 +123,24 @@ module _ {text : List ℕ} {fitted allowed runs next : ℕ} (head : Found headFo
               other (omega (arith, ap length behind, length-drop past text, found-within found (found-within head zero-le some) some′))
           | no none ↦ whole-found .none (omega arith) (partsOf c) whole [] is
         ]
+
+-- all of a text was read, or not
+whole-none : {text speeds turns : List ℕ} {head : Head} → head .next ≡ 0 → ((c : Card) → Shows text c → ⊥) → WholeAt text head speeds turns
+whole-none no-next none = record { there = λ some. absurd (omega arith); none = λ _. none }
+
+module _ {text speeds turns : List ℕ} {head : Head} (found : Found headForm SmallHead text 0 ((head .fitted, head .allowed), head .runs) (head .next)) where
+  pub whole-headless : head .next ≡ 0 → WholeAt text head speeds turns
+  whole-headless no-next = whole-none no-next (no-head found no-next)
+
+  module _ (some : 0 < head .next) {past : ℕ} (read : RowsAt text (head .next) (head .runs) past speeds turns) where
+    pub whole-cut : (past ≡ length text → ⊥) → {other : Head} → other .next ≡ 0 → WholeAt text other speeds turns
+    whole-cut end no-next = whole-none no-next (not-all found some (read .found) end)
+
+    pub whole-read : past ≡ length text → WholeAt text head speeds turns
+    whole-read end = record {
+      there = λ _.
+          let (shows, long) = shown found some (read .found) end in
+          let ends : 0 < past = omega (arith, found-within found zero-le some) in
+          record { rows = read .rows; shows = shows; long = long; speeds-laid = read .speeds-laid ends; turns-laid = read .turns-laid ends };
+      none = λ zero. absurd (omega arith);
+    }

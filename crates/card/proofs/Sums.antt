@@ -7,7 +7,6 @@ use mathlib.Core.Bool.{true, cond}
 use mathlib.Core.List.{List, [], _∷_}
 use native.Mathlib.Decide.{decLe, ℕ-discrete}
 use native.Mathlib.Omega.{arith}
-use borrow.Author.Tests.{eqb-true}
 use lib.Dec.{eqb}
 use lib.IntN.{pos, _+ℤ_, _-ℤ_, +ℤ-comm, -ℤ-+ℤ-cancel}
 use lib.ListN.{length}
@@ -16,7 +15,7 @@ use Rattle.card.specs.declared.Answer.{Answer}
 use Rattle.card.specs.Cards.{Card, isSpeed, allSpeeds}
 use Rattle.card.specs.Answers.{faultOf, total, perTurn, timeOf, answer, answerOf}
 use Rattle.card.specs.Sums.{turnsAt}
-use Rattle.card.proofs.RunLaws.{fault-none}
+use Rattle.card.proofs.RunLaws.{in-form, fault-none}
 use Rattle.card.proofs.WriteLaws.{two-speeds}
 use Rattle.card.proofs.AnswerLaws.{answer-refused, answer-below, answer-apart, answer-good}
 
@@ -72,6 +71,6 @@ module _ (runs : ℕ) (c : Card) (count : ℕ) (good : answerOf runs c count .co
       × (answerOf runs c count .time ≡ 27 * turnsAt 33 (c .speeds) (c .turns) + 20 * turnsAt 45 (c .speeds) (c .turns))
   by-speed =
       let (none, even, is) = good-answer runs c count good in
-      let (form, all) = both-hold _ _ (fault-none runs c none .0) in
-      let (turned, timed) = each-sum (c .speeds) (c .turns) all (eqb-true (length (c .turns)) (length (c .speeds)) form) in
+      let (alike, all) = in-form c (fault-none runs c none .0) in
+      let (turned, timed) = each-sum (c .speeds) (c .turns) all alike in
       rw is (sym even ∙ turned, timed)

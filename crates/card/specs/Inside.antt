@@ -1,23 +1,22 @@
 -- What the functions inside the crate promise each other. No promise of a door rests on it.
-use Prim.Native.Nat.{ℕ, _+_, _*_, _<_}
+use Prim.Native.Nat.{ℕ, _+_, _<_}
 use mathlib.Core.Path.{_≡_}
 use mathlib.Core.Bool.{true}
-use mathlib.Core.List.{List, flatten}
+use mathlib.Core.List.{List, [], _∷_, flatten}
 use lib.ListN.{length, getD}
+use Rattle.text.specs.Text.{decimal}
 use Rattle.text.specs.Reading.{Small, Found, both, Both}
-use Rattle.card.specs.declared.reading.Rows.{Rows}
-use Rattle.card.specs.Cards.{fittedLine, allowedLine, runsLine, speedLine, turnsLine, runTexts, isSpeed, allSpeeds}
+use Rattle.card.specs.declared.reading.Head.{Head}
+use Rattle.card.specs.Cards.{Card, card, Shows, fittedLine, allowedLine, runsLine, speedLine, turnsLine, runTexts, isSpeed, allSpeeds}
 use Rattle.card.specs.Doors.{places}
 
--- how long the lines before the runs are at most, those of a run, and all of a card that is not refused
-abbrev pub headLongest : ℕ
-headLongest = 42
+-- how long the lines of a run are, with a speed of two digits, and those of all runs
+abbrev pub runLength : ℕ → ℕ
+runLength turns = 16 + length (decimal turns)
 
-abbrev pub runLongest : ℕ
-runLongest = 26
-
-abbrev pub longest : ℕ
-longest = headLongest + 64 * runLongest
+unfoldable pub runsLength : List ℕ → ℕ
+runsLength [] = 0
+runsLength (turns ∷ more) = runLength turns + runsLength more
 
 -- the lines before the runs as forms, one behind another: of when fitted and the turns allowed, and of these and how many runs there are
 abbrev pub pairForm : ℕ × ℕ → List ℕ
@@ -52,9 +51,21 @@ pub record AreRuns (runs : ℕ) (rows : List ℕ × List ℕ) : Type 0 where
   pub right : allSpeeds (rows .0) ≡ true
   pub small : (k : ℕ) → getD (rows .1) k 0 < 4294967296
 
--- so many runs were read from an index on into 64 places
-pub record RowsAt (text : List ℕ) (at runs : ℕ) (read : Rows) : Type 0 where
+-- so many runs were read from an index on up to the next, into 64 places; or none of these stands there, where that is 0
+pub record RowsAt (text : List ℕ) (at runs next : ℕ) (speeds turns : List ℕ) : Type 0 where
   pub rows : List ℕ × List ℕ
-  pub found : Found rowsForm (AreRuns runs) text at rows (read .next)
-  pub speeds : 0 < read .next → read .speeds ≡ places (rows .0)
-  pub turns : 0 < read .next → read .turns ≡ places (rows .1)
+  pub found : Found rowsForm (AreRuns runs) text at rows next
+  pub speeds-laid : 0 < next → speeds ≡ places (rows .0)
+  pub turns-laid : 0 < next → turns ≡ places (rows .1)
+
+-- all of a text was read: the card that it shows, its runs in 64 places; or, where the next index is 0, it shows none
+pub record CardAt (text : List ℕ) (head : Head) (speeds turns : List ℕ) : Type 0 where
+  pub rows : List ℕ × List ℕ
+  pub shows : Shows text (card (head .fitted) (head .allowed) (rows .0) (rows .1))
+  pub long : length (rows .0) ≡ head .runs
+  pub speeds-laid : speeds ≡ places (rows .0)
+  pub turns-laid : turns ≡ places (rows .1)
+
+pub record WholeAt (text : List ℕ) (head : Head) (speeds turns : List ℕ) : Type 0 where
+  pub there : 0 < head .next → CardAt text head speeds turns
+  pub none : head .next ≡ 0 → (c : Card) → Shows text c → ⊥

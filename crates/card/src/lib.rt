@@ -6,8 +6,7 @@ mod writing;
 
 use answering::answer_held;
 use answering::refusal;
-use reading::read_head;
-use reading::read_runs;
+use reading::read_whole;
 use runs::fault_of;
 use runs::limit_fault;
 use writing::write_held;
@@ -135,21 +134,17 @@ fn no_card(code: u32) -> Read
 pub fn read_card(text: &[u8]) -> Read
     ensures { λ r. ⌜ Told (now (text .entry)) readOf (unread 5) r ⌝ }
 {
-    let head = read_head(text);
+    let mut speeds = [0u32; 64];
+    let mut turns = [0u32; 64];
+    let head = read_whole(text, &mut speeds, &mut turns);
     if head.next == 0 {
         return no_card(5);
     }
     let runs = head.runs as usize;
-    let rows = read_runs(text, head.next, runs);
-    if rows.next != text.len() {
-        return no_card(5);
-    }
     let code = limit_fault(head.allowed, runs);
     if code != 0 {
         return no_card(code);
     }
-    let speeds = rows.speeds;
-    let turns = rows.turns;
     Read {
         code: 0,
         card: Card {
@@ -166,12 +161,22 @@ pub fn read_card(text: &[u8]) -> Read
 pub fn answer_of_text(text: &[u8], count: u32) -> Answer
     ensures { λ r. ⌜ Told (now (text .entry)) (λ c. answerOf (length (c .speeds)) c count) (refused 5) r ⌝ }
 {
-    let read = read_card(text);
-    if read.code != 0 {
-        return refusal(read.code);
+    let mut speeds = [0u32; 64];
+    let mut turns = [0u32; 64];
+    let head = read_whole(text, &mut speeds, &mut turns);
+    if head.next == 0 {
+        return refusal(5);
     }
-    let card = read.card;
-    answer_at(card, count)
+    let runs = head.runs as usize;
+    let held = places_held(runs);
+    answer_held(
+        head.fitted,
+        head.allowed,
+        &speeds[..held],
+        &turns[..held],
+        runs,
+        count,
+    )
 }
 
 // What a card is refused for by itself.

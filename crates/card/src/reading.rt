@@ -3,9 +3,11 @@ use super::runs::is_speed;
 use text::reading::read_decimal_line;
 ghost use Prim.Native.Nat.{_≤_, _<_};
 ghost use mathlib.Core.Path.{_≡_};
+ghost use mathlib.Core.List.{[]};
 ghost use lib.ListN.{length, set};
 ghost use Rattle.text.specs.Reading.{Found};
-ghost use Rattle.card.specs.Inside.{headForm, SmallHead, runForm, IsRun, RowsAt};
+ghost use Rattle.card.specs.Doors.{places};
+ghost use Rattle.card.specs.Inside.{headForm, SmallHead, runForm, IsRun, RowsAt, WholeAt};
 
 // What stands before the runs.
 pub(crate) struct Head {
@@ -16,17 +18,10 @@ pub(crate) struct Head {
 }
 
 // A run.
-pub(crate) struct Run {
-    pub(crate) next: usize,
-    pub(crate) speed: u32,
-    pub(crate) turns: u32,
-}
-
-// All runs, in 64 places.
-pub(crate) struct Rows {
-    pub(crate) next: usize,
-    pub(crate) speeds: [u32; 64],
-    pub(crate) turns: [u32; 64],
+struct Run {
+    next: usize,
+    speed: u32,
+    turns: u32,
 }
 
 // Nothing was found.
@@ -52,7 +47,7 @@ fn no_run() -> Run
 }
 
 // Reads what stands before the runs, from the start of a text on.
-pub(crate) fn read_head(text: &[u8]) -> Head
+fn read_head(text: &[u8]) -> Head
     ensures { λ r. ⌜ Found headForm SmallHead (now (text .entry)) 0 ((r .fitted, r .allowed), r .runs) (r .next) ⌝ }
 {
     let fitted = read_decimal_line(b"fitted", text, 0);
@@ -103,32 +98,38 @@ fn keep(row: &mut [u32], at: usize, value: u32)
     }
 }
 
-// Reads so many runs. Those past the 64th are read for their form, and not kept.
-pub(crate) fn read_runs(text: &[u8], at: usize, runs: usize) -> Rows
-    requires { ⌜ (0 < at) × (at ≤ length (now text)) ⌝ }
-    ensures { λ r. ⌜ RowsAt (now (text .entry)) at runs r ⌝ }
+// Reads so many runs into places that have none yet. Those past the last place are read for their form, and not kept.
+fn read_runs(text: &[u8], at: usize, runs: usize, speeds: &mut [u32], turns: &mut [u32]) -> usize
+    requires { ⌜ (0 < at) × (at ≤ length (now text)) × (now speeds ≡ places []) × (now turns ≡ places []) ⌝ }
+    ensures { λ r. ⌜ RowsAt (now (text .entry)) at runs r (now (speeds .exit)) (now (turns .exit)) ⌝ }
 {
-    let mut speeds = [0u32; 64];
-    let mut turns = [0u32; 64];
     let mut next = at;
     let mut done = 0;
     while done < runs {
         let run = read_run(text, next);
         if run.next == 0 {
-            return Rows {
-                next: 0,
-                speeds,
-                turns,
-            };
+            return 0;
         }
-        keep(&mut speeds, done, run.speed);
-        keep(&mut turns, done, run.turns);
+        keep(speeds, done, run.speed);
+        keep(turns, done, run.turns);
         next = run.next;
         done += 1;
     }
-    Rows {
-        next,
-        speeds,
-        turns,
+    next
+}
+
+// Reads all of a text, its runs into places that have none yet.
+pub(crate) fn read_whole(text: &[u8], speeds: &mut [u32], turns: &mut [u32]) -> Head
+    requires { ⌜ (now speeds ≡ places []) × (now turns ≡ places []) ⌝ }
+    ensures { λ r. ⌜ WholeAt (now (text .entry)) r (now (speeds .exit)) (now (turns .exit)) ⌝ }
+{
+    let head = read_head(text);
+    if head.next == 0 {
+        return head;
     }
+    let end = read_runs(text, head.next, head.runs as usize, speeds, turns);
+    if end != text.len() {
+        return no_head();
+    }
+    head
 }

@@ -1,8 +1,6 @@
 // The stylus card (document 02, P4). Most cases are of one card: fitted at 100, 5000 turns allowed, 10 turns cut at 33 1/3 and 3 at
 // 45. Its text has 66 signs.
 use super::bench::near_the_end;
-use super::chips;
-use super::chips::Chip;
 use super::chips::set;
 use super::lines::say_again;
 use super::lines::say_answer;
@@ -49,7 +47,7 @@ fn say_text(name: &[u8], text: Text, count: u32) {
     say_answer(name, answer(text, count));
 }
 
-// The runs add up at one count.
+// The runs add up to the turns used at 113 alone, and at 99 the sapphire was not yet fitted.
 fn counts(text: Text) {
     say_text(b"P4 count 113, answer", text, 113);
     say_text(b"P4 count 99, answer", text, 99);
@@ -82,6 +80,7 @@ fn allowing(allowed: &[u8]) -> Text {
     )
 }
 
+// Turns left are negative once overrun.
 fn overrun_and_unused() {
     say_text(b"P4 allowed 12, count 113, answer", allowing(b"12"), 113);
     say_text(b"P4 no runs, count 100, answer", head(b"5000", b"0"), 100);
@@ -115,7 +114,7 @@ fn add_64(mut text: Text, run: &[u8]) -> Text {
     text
 }
 
-// The turns of the second come to 2 to the power of 38, less 64.
+// The turns of the second text come to 2 to the power of 38, less 64.
 fn most_runs() {
     let text = add_64(head(b"5000", b"64"), &RUN);
     say_text(b"P4 64 runs, count 164, answer", text, 164);
@@ -123,14 +122,14 @@ fn most_runs() {
     say_text(b"P4 64 runs of 4294967295, count 113, answer", large, 113);
 }
 
-// A run too many, with refusal 5 before it and refusal 1.
+// Refusals 5 and 1 come before that of a run too many.
 fn too_many_runs() {
     let text = add_64(head(b"5000", b"65"), &RUN);
     say_text(b"P4 65 runs, count 165, answer", add(text, &RUN), 165);
     let other = add(text, b"speed=78\nturns=1\n");
     say_text(b"P4 65 runs, the last at 78, count 165, answer", other, 165);
-    let none = add(add_64(head(b"0", b"65"), &RUN), &RUN);
-    say_text(b"P4 65 runs, allowed 0, count 165, answer", none, 165);
+    let zero = add(add_64(head(b"0", b"65"), &RUN), &RUN);
+    say_text(b"P4 65 runs, allowed 0, count 165, answer", zero, 165);
 }
 
 // The texts of no card.
@@ -166,19 +165,15 @@ fn rows() {
     say_card(b"P4 a card that says 65 runs, write", done.answer);
 }
 
-fn say_chip_of(name: &[u8], card: Card, chip: Chip) {
-    say_chip(name, chips::answer(card, chip));
-}
-
 // A chip that is refused has no count, and the card answers only what it is refused for by itself.
 fn on_chips() {
     let chip = near_the_end();
     let card = card_of(4294967281, 5000, 2);
-    say_chip_of(b"P4 chip at 4294967294, answer", card, chip);
+    say_chip(b"P4 chip at 4294967294, answer", card, chip);
     let gone = set(chip, 1, 0xFF);
-    say_chip_of(b"P4 chip, mark gone, answer", card, gone);
-    let none = card_of(4294967281, 0, 2);
-    say_chip_of(b"P4 chip, mark gone, allowed 0, answer", none, gone);
+    say_chip(b"P4 chip, mark gone, answer", card, gone);
+    let zero = card_of(4294967281, 0, 2);
+    say_chip(b"P4 chip, mark gone, allowed 0, answer", zero, gone);
 }
 
 pub(crate) fn cases() {

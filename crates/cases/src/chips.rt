@@ -115,7 +115,7 @@ pub(crate) fn read(chip: Chip) -> ReadAnswer {
 }
 
 // What a card answers at a chip's count.
-pub(crate) fn answer(card: Card, chip: Chip) -> ChipAnswer {
+pub(crate) fn answer_of(card: Card, chip: Chip) -> ChipAnswer {
     let image = chip.image;
     let n = at_most_largest(chip.size);
     card::answer_of_chip(card, &image[..n], chip.map, chip.start, chip.end)

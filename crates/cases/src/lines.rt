@@ -1,10 +1,12 @@
 // A line for each case: its name, the answer's numbers and, where they say more, some cells, or the counts of mended bits.
 use super::chips::Chip;
+use super::chips::answer_of;
 use super::chips::blank;
 use super::chips::cell;
 use super::chips::open;
 use super::chips::read;
 use super::chips::step;
+use card::Card;
 use counter::verdict::Answer;
 use libc::STDOUT_FILENO;
 
@@ -157,8 +159,9 @@ pub(crate) fn say_answer(name: &[u8], answer: card::Answer) {
     print_turns(answer);
 }
 
-// With the code of the chip's read.
-pub(crate) fn say_chip(name: &[u8], told: card::ChipAnswer) {
+// At a chip's count, with the code of its read.
+pub(crate) fn say_chip(name: &[u8], card: Card, chip: Chip) {
+    let told = answer_of(card, chip);
     let answer = told.answer;
     io::write_all(STDOUT_FILENO, name);
     print_number(b": read=", told.read as u64);

@@ -1,11 +1,11 @@
-// The texts of the cases: Intel HEX written from a chip and read into a chip, and cards written and read; and texts put together and
+// The texts of the cases: Intel HEX written from a chip and read into a chip, cards written and read, and texts put together and
 // damaged. A text goes by value, as a chip does.
 ghost use Prim.Native.Nat.{_≤_};
 use super::chips::Chip;
 use super::chips::at_most_largest;
 use card::Card;
 
-// The signs of the longest text, which no card's is longer than.
+// The signs of the longest text: no card has a longer one.
 const LONGEST: usize = 1706;
 
 // The signs from `length` on are not the text's: no door sees them.

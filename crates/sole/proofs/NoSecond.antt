@@ -76,6 +76,7 @@ use Rattle.text.proofs.reading.read_decimal_line
 use Rattle.text.proofs.write_byte
 use Rattle.text.proofs.write_bytes
 use Rattle.text.proofs.write_decimal
+use Rattle.text.proofs.decimal_length
 use Rattle.text.proofs.write_signed
 use Rattle.text.proofs.write_decimal_line
 use Rattle.text.proofs.write_signed_line
@@ -238,6 +239,9 @@ module _ {M : Type 1} (𝓤 : URA M) where
 
     pub write-signed-line-one : Sole 𝓤 write_signed_line.ended (write_signed_line.clauses 𝓤 H A mem run) (λ κs r at. filled r (now (at .1 .1 .0)))
     write-signed-line-one _ _ _ _ _ _ _ = both one-text
+
+    pub decimal-length-one : Sole 𝓤 decimal_length.ended (decimal_length.clauses 𝓤 H A mem run) (λ κs r at. r)
+    decimal-length-one _ _ _ _ _ _ _ = both (λ one two. one .0 ∙ sym (two .0))
 
     pub read-decimal-line-one : Sole 𝓤 read_decimal_line.ended (read_decimal_line.clauses 𝓤 H A mem run) (λ κs r at. r)
     read-decimal-line-one _ _ _ _ _ _ _ = both (finds-one (line-ends _ Small))

@@ -52,6 +52,19 @@ pub fn write_decimal(n: u64, text: &mut [u8], at: usize) -> usize
     write_digit(n, text, next)
 }
 
+// How long a plain decimal is.
+pub fn decimal_length(n: u64) -> usize
+    ensures { λ r. ⌜ (r ≡ length (decimal n)) × (r ≤ 20) ⌝ }
+{
+    let mut rest = n;
+    let mut length = 1;
+    while rest >= 10 {
+        rest = rest / 10;
+        length += 1;
+    }
+    length
+}
+
 // The magnitude of a signed number, right at the least one too.
 fn magnitude(n: i64) -> u64
     ensures { λ r. ⌜ r ≡ natAbs n ⌝ }

@@ -4,11 +4,10 @@ use mathlib.Core.Path.{sym, ap, _∙_}
 use native.Mathlib.Nat.{lt-of-le-of-lt, sub-le}
 use native.Mathlib.Omega.{arith}
 use borrow.Author.Needs.{needs}
-use borrow.Author.Tests.{eqb-true}
 use Rattle.counter.proofs.Lags.{lag-fits, lag-bits}
-use Rattle.counter.proofs.RangeTests.{both-hold}
+use Rattle.card.specs.Cards.{card}
 use Rattle.card.specs.Answers.{answer, refused}
-use Rattle.card.proofs.RunLaws.{fault-none}
+use Rattle.card.proofs.RunLaws.{in-form, fault-none}
 use Rattle.card.proofs.AnswerLaws.{fault-any, answer-refused, answer-below, answer-apart, answer-good}
 use Rattle.card.proofs.answering.answer_held.Statement.{statement}
 use Rattle.card.proofs.answering.answer_held.Tie as tie
@@ -29,7 +28,7 @@ cut-in-requires c κs =
     let passed = c .before in
     let start = passed .before .before .before .before in
     let (formed, least, most, few) = fault-none _ _ (sym (passed .before .fault-of .ensures) ∙ passed .if1 .left) in
-    (eqb-true _ _ (both-hold _ _ formed .0), omega (arith, few, start .pre))
+    (in-form (card 0 (start .args .allowed) (start .args .speeds .now) (start .args .turns .now)) formed .0, omega (arith, few, start .pre))
 
 returns-3 : tie.Need-returns-3
 returns-3 c =

@@ -1,10 +1,8 @@
 -- `write_head` meets its contract: its three lines, one after another, and there is room for them.
-use Prim.Native.Nat.{_≤_}
 use native.Mathlib.Omega.{arith}
 use borrow.Author.Needs.{needs}
 use Rattle.text.proofs.Writing.{wrote-on}
-use Rattle.card.specs.Inside.{headLongest}
-use Rattle.card.proofs.WriteLaws.{head-fits}
+use Rattle.card.proofs.WriteLaws.{head-lines}
 use Rattle.card.proofs.writing.write_head.Statement.{statement}
 use Rattle.card.proofs.writing.write_head.Tie as tie
 
@@ -17,13 +15,13 @@ abbrev first : tie.After-write-decimal-line2 → tie.After-write-decimal-line
 first c = c .before .before .before .before .before
 
 write-decimal-line-requires : tie.Need-write-decimal-line-requires
-write-decimal-line-requires c κs = let s = c .before .before .before in omega (arith, head-fits _ _ _ (s .fits .fitted .fits) (s .pre .0) (s .pre .1))
+write-decimal-line-requires c κs = let s = c .before .before .before in omega (arith, s .pre, head-lines (s .args .fitted) (s .args .allowed) (s .args .runs))
 
 write-decimal-line-requires-2 : tie.Need-write-decimal-line-requires-2
-write-decimal-line-requires-2 c κs = let s = start (c .before .before .before .before) in omega (arith, head-fits _ _ _ (s .fits .fitted .fits) (s .pre .0) (s .pre .1))
+write-decimal-line-requires-2 c κs = let s = start (c .before .before .before .before) in omega (arith, s .pre, head-lines (s .args .fitted) (s .args .allowed) (s .args .runs))
 
 write-decimal-line-requires-3 : tie.Need-write-decimal-line-requires-3
-write-decimal-line-requires-3 c κs = let s = start (first (c .before .before .before .before)) in omega (arith, head-fits _ _ _ (s .fits .fitted .fits) (s .pre .0) (s .pre .1))
+write-decimal-line-requires-3 c κs = let s = start (first (c .before .before .before .before)) in omega (arith, s .pre, head-lines (s .args .fitted) (s .args .allowed) (s .args .runs))
 
 returns : tie.Need-returns
 returns c =
@@ -31,9 +29,9 @@ returns c =
     let second = third .before .before .before .before .before in
     let first = first second in
     let s = start first in
-    let fits = head-fits _ _ _ (s .fits .fitted .fits) (s .pre .0) (s .pre .1) in
-    let ends : third .write-decimal-line3 .result ≤ headLongest = omega (arith, fits) in
-    (wrote-on _ _ (omega arith) (wrote-on _ _ (omega arith) (first .write-decimal-line .ensures) (second .write-decimal-line2 .ensures)) (third .write-decimal-line3 .ensures), ends)
+    let room = head-lines (s .args .fitted) (s .args .allowed) (s .args .runs) in
+    wrote-on _ _ (omega (arith, s .pre, room))
+    (wrote-on _ _ (omega (arith, s .pre, room)) (first .write-decimal-line .ensures) (second .write-decimal-line2 .ensures)) (third .write-decimal-line3 .ensures)
 
 pub write-head-spec : {M : Type 1} → statement M
 write-head-spec =

@@ -1,10 +1,10 @@
--- `answer` meets its contract: the first n cells of an image are n long.
+-- `answer_of` meets its contract: the first n cells of an image are n long.
 use mathlib.Core.Path.{sym}
 use borrow.Author.Needs.{needs}
 use lib.Seq.{length-take-le}
 use Rattle.cases.proofs.Sizes.{image-holds}
-use Rattle.cases.proofs.chips.answer.Statement.{statement}
-use Rattle.cases.proofs.chips.answer.Tie as tie
+use Rattle.cases.proofs.chips.answer_of.Statement.{statement}
+use Rattle.cases.proofs.chips.answer_of.Tie as tie
 
 array-share-prefix-image : tie.Need-array-share-prefix-image
 array-share-prefix-image c =
@@ -14,8 +14,8 @@ array-share-prefix-image c =
 slice-aggregate-answer-of-chip : tie.Need-slice-aggregate-answer-of-chip
 slice-aggregate-answer-of-chip c = sym (length-take-le _ _ (array-share-prefix-image (c .before)))
 
-pub answer-spec : {M : Type 1} → statement M
-answer-spec =
+pub answer-of-spec : {M : Type 1} → statement M
+answer-of-spec =
     tie.close
     (tie.spec
     (λ c κs. search needs)
