@@ -420,6 +420,7 @@ static void many_runs(void)
 {
     say_many("P4 64 runs, count 164, answer", HEAD("5000", "64"), RUN, "", 164);
     say_many("P4 64 runs of 4294967295, count 113, answer", HEAD("5000", "64"), "speed=33\nturns=4294967295\n", "", 113);
+    say_card("P4 runs of 4294967295 and 14, count 113, answer", HEAD("5000", "2") "speed=33\nturns=4294967295\nspeed=45\nturns=14\n", 113);
     say_many("P4 65 runs, count 165, answer", HEAD("5000", "65"), RUN, RUN, 165);
     say_many("P4 65 runs, the last at 78, count 165, answer", HEAD("5000", "65"), RUN, "speed=78\nturns=1\n", 165);
     say_many("P4 65 runs, allowed 0, count 165, answer", HEAD("0", "65"), RUN, RUN, 165);

@@ -1,6 +1,6 @@
 #!/bin/sh
 # tests/lyre.sh: holds ./lyre to its help, in which each command has an example that works; to one line and a status for what cannot
-# be done; and to calling rt where a program may be out of date, and only there.
+# be done; to what `card` prints and says of every refusal; and to calling rt where a program may be out of date, and only there.
 set -eu
 cd "$(dirname "$0")/.."
 work=$(mktemp -d)
@@ -64,6 +64,12 @@ refused 2 'usage: ./lyre from-hex N [FILE]' from-hex
 refused 2 'usage: ./lyre from-hex N [FILE]' from-hex 12x
 refused 1 'standard input: is closed' from-hex 129 <&-
 refused 1 'lyre from-hex: line 0: the text ends' from-hex 129 </dev/null
+refused 2 'usage: ./lyre card CARD CHIP' card examples/card.txt
+refused 1 "$work/missing: cannot be opened" card "$work/missing" examples/card.bin
+refused 1 "$work/missing: cannot be opened" card examples/card.txt "$work/missing"
+refused 1 "$work: is a folder" card examples/card.txt "$work"
+head -c 65536 /dev/zero >"$work/long"
+refused 1 'lyre card: card: 65536 bytes or more' card "$work/long" examples/card.bin
 same
 same examples/setting-a.bin
 same "$work/missing"
@@ -76,6 +82,59 @@ ends 1 sh -c './lyre to-hex examples/setting-a.bin >/dev/full'
 grep -qx 'lyre to-hex: the text cannot be written' "$work/said" || fail 'to-hex does not say that its text is lost'
 ends 1 sh -c './lyre from-hex 129 examples/hex/objcopy.hex >/dev/full'
 grep -qx 'lyre from-hex: the image cannot be written' "$work/said" || fail 'from-hex does not say that its image is lost'
+
+# answers STATUS LINES WORDS CARD CHIP: ./lyre card prints five lines, which stand here with spaces between them, and says the words, one
+# line or more, or nothing
+answers() {
+    wanted=$1 lines=$2 words=$3
+    shift 3
+    ends "$wanted" ./lyre card "$@"
+    [ "$(tr '\n' ' ' <"$work/printed")" = "$lines " ] && [ "$(cat "$work/said")" = "$words" ] ||
+        { cat "$work/printed" "$work/said"; fail "./lyre card $*: not $lines, and in words: $words"; }
+}
+
+# put FROM TO: the card of the examples with a text put for another, a line feed written as \n
+put() {
+    sed "s/$1/$2/" examples/card.txt >"$work/card"
+}
+
+none='used=0 left=0 time=0'
+answers 0 'read=0 code=0 used=13 left=4987 time=330' '' examples/card.txt examples/card.bin
+put allowed=5000 allowed=10
+answers 0 'read=0 code=0 used=13 left=-3 time=330' '' "$work/card" examples/card.bin
+put allowed=5000 allowed=0
+answers 1 "read=0 code=1 $none" 'lyre card: card: the allowance is not 1 to 1000000' "$work/card" examples/card.bin
+put fitted=100 fitted=114
+answers 1 "read=0 code=2 $none" 'lyre card: card: the count is below the one when fitted' "$work/card" examples/card.bin
+put turns=3 turns=4
+answers 1 "read=0 code=3 $none" 'lyre card: card: the runs do not add up to the turns used' "$work/card" examples/card.bin
+{ printf 'fitted=100\nallowed=5000\nruns=65\n'; for run in $(seq 65); do printf 'speed=45\nturns=0\n'; done; } >"$work/card"
+answers 1 "read=0 code=4 $none" 'lyre card: card: more than 64 runs' "$work/card" examples/card.bin
+put fitted=100 'fitted=0100'
+answers 1 "read=0 code=5 $none" 'lyre card: card: the text is not in form' "$work/card" examples/card.bin
+answers 1 "read=0 code=2 $none" 'lyre card: card: the count is below the one when fitted' examples/card.txt examples/setting-a.bin
+
+# chip WORDS READ BYTE VALUE: the chip of the examples with a byte put for another is refused so
+chip() {
+    cp examples/card.bin "$work/chip"
+    printf "$4" | dd of="$work/chip" bs=1 seek="$3" conv=notrunc 2>"$work/dd"
+    answers 1 "read=$2 code=0 $none" "lyre card: chip: $1" examples/card.txt "$work/chip"
+}
+
+chip 'no mark: never opened, or damaged' 3 1 '\000'
+chip 'the map is not sound' 4 3 '\001'
+chip 'the copies disagree' 6 128 '\200'
+cp "$work/chip" "$work/lost"
+printf '\377' | dd of="$work/lost" bs=1 seek=128 conv=notrunc 2>"$work/dd"
+printf '\377' | dd of="$work/lost" bs=1 seek=125 conv=notrunc 2>"$work/dd"
+answers 1 "read=5 code=0 $none" 'lyre card: chip: a nibble is lost in both copies' examples/card.txt "$work/lost"
+head -c 128 examples/card.bin >"$work/chip"
+answers 1 "read=2 code=0 $none" 'lyre card: chip: too short for setting A' examples/card.txt "$work/chip"
+put allowed=5000 allowed=0
+answers 1 "read=1 code=1 $none" 'lyre card: chip: not 41 to 4096 bytes long
+card: the allowance is not 1 to 1000000' "$work/card" /dev/null
+ends 1 sh -c './lyre card examples/card.txt examples/card.bin >/dev/full'
+grep -qx 'lyre card: the lines cannot be written' "$work/said" || fail 'card does not say that its lines are lost'
 
 # When rt is called, in a house and with a kit that are made up: there rt leaves a program, as long as the kit has it, and ends as the
 # file `ends` says.

@@ -114,12 +114,21 @@ fn add_64(mut text: Text, run: &[u8]) -> Text {
     text
 }
 
-// The turns of the second text come to 2 to the power of 38, less 64.
+// The turns of the second text come to 2 to the power of 38, less 64; those of the third to 13, if they wrapped at 32 bits.
 fn most_runs() {
     let text = add_64(head(b"5000", b"64"), &RUN);
     say_text(b"P4 64 runs, count 164, answer", text, 164);
     let large = add_64(head(b"5000", b"64"), b"speed=33\nturns=4294967295\n");
     say_text(b"P4 64 runs of 4294967295, count 113, answer", large, 113);
+    let wrapping = add(
+        head(b"5000", b"2"),
+        b"speed=33\nturns=4294967295\nspeed=45\nturns=14\n",
+    );
+    say_text(
+        b"P4 runs of 4294967295 and 14, count 113, answer",
+        wrapping,
+        113,
+    );
 }
 
 // Refusals 5 and 1 come before that of a run too many.
