@@ -228,20 +228,7 @@ void count_pair(door door, uint32_t first, uint32_t other)
     pairs[door][first][other] += 1;
 }
 
-/* What was met. A run that met something much less often than it is drawn says little about it and fails; a run of few cases is
-   not asked for much. */
-
-static bool too_seldom;
-
-static void print_times(bool possible, uint64_t times, uint64_t least)
-{
-    if (!possible) {
-        printf("%9s", "-");
-        return;
-    }
-    printf("%c%8" PRIu64, times < least ? '!' : ' ', times);
-    too_seldom |= times < least;
-}
+/* What was met. A run of few cases is not asked for much. */
 
 static void print_codes(void)
 {
@@ -275,8 +262,5 @@ void print_met(void)
     print_codes();
     print_pairs(door_at);
     print_pairs(door_write);
-    if (!too_seldom)
-        return;
-    printf("HARDLY MET: what is marked !\n");
-    exit(1);
+    end_if_seldom();
 }

@@ -176,20 +176,7 @@ void count_pair(uint32_t first, uint32_t other, bool in_one_line)
     pairs[in_one_line][first][other] += 1;
 }
 
-/* What was met. A run that met something much less often than it is drawn says little about it and fails; a run of few cases is
-   not asked for much. */
-
-static bool too_seldom;
-
-static void print_times(bool possible, uint64_t times, uint64_t least)
-{
-    if (!possible) {
-        printf("%9s", "-");
-        return;
-    }
-    printf("%c%8" PRIu64, times < least ? '!' : ' ', times);
-    too_seldom |= times < least;
-}
+/* What was met. A run of few cases is not asked for much. */
 
 static void print_codes(void)
 {
@@ -232,8 +219,5 @@ void print_met(void)
     print_codes();
     print_pairs(true);
     print_pairs(false);
-    if (!too_seldom)
-        return;
-    printf("HARDLY MET: what is marked !\n");
-    exit(1);
+    end_if_seldom();
 }

@@ -73,6 +73,26 @@ void expect(bool holds, const char *what)
     exit(1);
 }
 
+static bool too_seldom;
+
+void print_times(bool possible, uint64_t times, uint64_t least)
+{
+    if (!possible) {
+        printf("%9s", "-");
+        return;
+    }
+    printf("%c%8" PRIu64, times < least ? '!' : ' ', times);
+    too_seldom |= times < least;
+}
+
+void end_if_seldom(void)
+{
+    if (!too_seldom)
+        return;
+    printf("HARDLY MET: what is marked !\n");
+    exit(1);
+}
+
 int main(int count_of_words, char **words)
 {
     if (count_of_words != 3 && count_of_words != 4) {

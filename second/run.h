@@ -26,6 +26,11 @@ void where(void);
 /* Ends the program unless it holds; says what should have. */
 void expect(bool holds, const char *what);
 
+/* In a table of what was met: how often, or - where it cannot be. What was met less than so often is marked, since a run that met
+   something much less often than it is drawn says little about it; and such a run fails in the end. */
+void print_times(bool possible, uint64_t times, uint64_t least);
+void end_if_seldom(void);
+
 uint64_t draw(void);
 size_t below(size_t limit);
 size_t between(size_t lowest, size_t highest);

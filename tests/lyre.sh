@@ -113,6 +113,7 @@ answers 1 "read=0 code=4 $none" 'lyre card: card: more than 64 runs' "$work/card
 put fitted=100 'fitted=0100'
 answers 1 "read=0 code=5 $none" 'lyre card: card: the text is not in form' "$work/card" examples/card.bin
 answers 1 "read=0 code=2 $none" 'lyre card: card: the count is below the one when fitted' examples/card.txt examples/setting-a.bin
+answers 0 'read=0 code=0 used=13 left=4987 time=330' '' examples/card.txt /dev/stdin <examples/card.bin
 
 # chip WORDS READ BYTE VALUE: the chip of the examples with a byte put for another is refused so
 chip() {
@@ -132,7 +133,7 @@ head -c 128 examples/card.bin >"$work/chip"
 answers 1 "read=2 code=0 $none" 'lyre card: chip: too short for setting A' examples/card.txt "$work/chip"
 put allowed=5000 allowed=0
 answers 1 "read=1 code=1 $none" 'lyre card: chip: not 41 to 4096 bytes long
-card: the allowance is not 1 to 1000000' "$work/card" /dev/null
+lyre card: card: the allowance is not 1 to 1000000' "$work/card" /dev/null
 ends 1 sh -c './lyre card examples/card.txt examples/card.bin >/dev/full'
 grep -qx 'lyre card: the lines cannot be written' "$work/said" || fail 'card does not say that its lines are lost'
 

@@ -49,9 +49,9 @@ try() {
     name=$crate/$(basename "$1" .edit)
     place=$work/$name
     mkdir -p "$place/target/inc"
-    cp -R crates.txt crates "$place"
+    cp -al crates.txt crates "$place"
     ln -s "$stands/target/rlib" "$stands/target/stamp" "$place/target"
-    [ "$kind" = whole ] || cp -R "target/inc/$crate" "$place/target/inc"
+    [ "$kind" = whole ] || cp -al "target/inc/$crate" "$place/target/inc"
     if ! apply "$1" "$place/crates/$crate"; then
         echo "wrong: $name: BAD EDIT: an old text does not stand in its file once" >"$place.line"
         return
@@ -72,12 +72,14 @@ try() {
     rm -rf "$place"
 }
 
-# try_all: the edits of $crate, two at a time. The crate is proved as it stands before, with all that it depends on, so that a
+# try_all: the edits of $crate, two at a time. Files are linked and not copied, since rt and apply put a new file in place of one that
+# they change; at the end it is seen that they did. The crate is proved as it stands before, with all that it depends on, so that a
 # refusal is the edit's.
 try_all() {
     rt dev "$crate" >"$work/said" 2>&1 || { cat "$work/said"; echo "wrong: $crate is not proved as it stands"; exit 1; }
     set -- "crates/$crate/wrong"/*.edit
     tried=$((tried + $#))
+    : >"$work/mark"
     while [ $# -gt 0 ]; do
         try "$1" &
         [ $# -lt 2 ] || try "$2" &
@@ -86,6 +88,8 @@ try_all() {
         shift
         [ $# -eq 0 ] || shift
     done
+    changed=$(find crates "target/inc/$crate" -type f -newer "$work/mark" ! -name rattle-last-used)
+    [ -z "$changed" ] || { echo "wrong: trying edits of $crate changed what stands"; exit 1; }
 }
 
 for crate in "$@"; do try_all; done

@@ -1,6 +1,6 @@
 -- What the doors answer, case by case: a text read, the answer of a text, and that of a chip.
 use Prim.Native.Nat.{ℕ, _≤_, _<_, min}
-use mathlib.Core.Path.{_≡_, refl, sym, ap, _∙_}
+use mathlib.Core.Path.{_≡_, sym, ap, _∙_}
 use mathlib.Core.Bool.{Bool, true, false, cond, _&&_}
 use mathlib.Core.List.{List}
 use native.Mathlib.Decide.{decLe, ℕ-discrete}
@@ -11,12 +11,11 @@ use lib.ListN.{length, take, length-take}
 use Rattle.counter.specs.declared.verdict.Answer as counter
 use Rattle.card.specs.declared.Read.{Read}
 use Rattle.card.specs.declared.Answer.{Answer}
-use Rattle.card.specs.declared.ChipAnswer.{ChipAnswer}
 use Rattle.card.specs.Cards.{Card, card, formed, Shows}
 use Rattle.card.specs.Inside.{CardAt}
 use Rattle.card.specs.declared.reading.Head.{Head}
 use Rattle.card.specs.Answers.{limitFault, faultOf, refused, answerOf, chipRefused, chipAnswerOf}
-use Rattle.card.specs.Doors.{cardIn, places, laidOut, read, unread, readOf, Told, shown, not-shown}
+use Rattle.card.specs.Doors.{cardIn, inPlaces, laidOut, read, unread, readOf, Told, shown, not-shown}
 use Rattle.card.proofs.RunLaws.{in-form, fault-none}
 use Rattle.card.proofs.RowLaws.{row-in, row-cut, speeds-take}
 use Rattle.counter.proofs.RangeTests.{hold-both}
@@ -60,7 +59,7 @@ module _ {text : List ℕ} {c : Card} (shows : Shows text c) {runs code : ℕ} (
   told-refused fault answers =
       shown c shows (answers ∙ ap unread same-fault ∙ sym (read-refused c (λ none. fault (same-fault ∙ none))))
 
-  pub told-read : code ≡ 0 → {speeds turns : List ℕ} → speeds ≡ places (c .speeds) → turns ≡ places (c .turns)
+  pub told-read : code ≡ 0 → {speeds turns : List ℕ} → speeds ≡ inPlaces (c .speeds) → turns ≡ inPlaces (c .turns)
       → Told text readOf (unread 5) (record { code = 0; card = record { fitted = c .fitted; allowed = c .allowed; runs = runs; speeds = speeds; turns = turns } })
   told-read none first second =
       shown c shows
@@ -71,12 +70,12 @@ module _ {text : List ℕ} {c : Card} (shows : Shows text c) {runs code : ℕ} (
 pub card-in : (c : Card) → formed c ≡ true → runsIn c ≤ 64 → cardIn (laidOut c) ≡ c
 card-in c form few =
     let even = in-form c form .0 in
-    let turns : take (runsIn c) (places (c .turns)) ≡ c .turns = rw (sym even) (row-in (c .turns) (rw even few)) in
+    let turns : take (runsIn c) (inPlaces (c .turns)) ≡ c .turns = rw (sym even) (row-in (c .turns) (rw even few)) in
     λ i. record { fitted = c .fitted; allowed = c .allowed; speeds = row-in (c .speeds) few i; turns = turns i }
 
 -- a card with more runs than places is refused, as are the runs in its places
 cut-fault : (c : Card) → formed c ≡ true → 64 < runsIn c
-    → faultOf (runsIn c) (card (c .fitted) (c .allowed) (take 64 (places (c .speeds))) (take 64 (places (c .turns)))) ≡ faultOf (runsIn c) c
+    → faultOf (runsIn c) (card (c .fitted) (c .allowed) (take 64 (inPlaces (c .speeds))) (take 64 (inPlaces (c .turns)))) ≡ faultOf (runsIn c) c
 cut-fault c form many =
     let (even, all) = in-form c form in
     let speeds = row-cut (c .speeds) (omega arith) in
@@ -89,7 +88,7 @@ cut-fault c form many =
 
 -- what a card answers whose runs are in their places
 answer-laid : (c : Card) (held count : ℕ) → formed c ≡ true → held ≡ min (runsIn c) 64
-    → answerOf (runsIn c) (card (c .fitted) (c .allowed) (take held (places (c .speeds))) (take held (places (c .turns)))) count ≡ answerOf (runsIn c) c count
+    → answerOf (runsIn c) (card (c .fitted) (c .allowed) (take held (inPlaces (c .speeds))) (take held (inPlaces (c .turns)))) count ≡ answerOf (runsIn c) c count
 answer-laid c held count form is =
     elim (decLe (runsIn c) 64) [
       | yes few ↦

@@ -1,6 +1,6 @@
 -- The laws of a card's 64 places: those that have a run.
 use Prim.Native.Nat.{ℕ, _≤_, min}
-use mathlib.Core.Path.{_≡_, refl, sym, ap, _∙_}
+use mathlib.Core.Path.{_≡_, sym, ap, _∙_}
 use mathlib.Core.List.{List}
 use native.Mathlib.Decide.{decLe}
 use native.Mathlib.Omega.{arith}

@@ -1,4 +1,4 @@
--- The laws of a card's forms: each ends by itself, so that no text shows two cards.
+-- The lines of a card as forms: each ends by itself.
 use Prim.Native.Nat.{ℕ}
 use lib.Dec.{lit<}
 use Rattle.text.specs.Text.{bytesOf}
@@ -11,10 +11,10 @@ use Rattle.card.specs.Inside.{pairForm, SmallPair, headForm, SmallHead, 
 pub fitted-ends : Ends fittedLine Small
 fitted-ends = line-ends (bytesOf "fitted") Small
 
--- the line of a speed ends by itself among those of all numbers
 pub speed-small : (speed : ℕ) → IsSpeed speed → Small speed
 speed-small speed is = two-speeds Small speed is (lit< tt) (lit< tt)
 
+-- the line of a speed ends by itself, among those of all numbers too
 pub speed-ends : (allowed : ℕ → Type 0) → Ends speedLine allowed
 speed-ends = line-ends (bytesOf "speed")
 

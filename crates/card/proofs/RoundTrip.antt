@@ -1,5 +1,5 @@
 -- The theorems on a card's text (document 02, P4).
---   texts-differ   different cards have different texts
+--   texts-differ   different cards in form have different texts
 --   told-one       a text determines what is answered of it
 --   read-written   reading what was written gives the card
 --   written-read   writing what was read gives the text
@@ -18,12 +18,12 @@ use Rattle.card.specs.declared.Read.{Read}
 use Rattle.card.specs.Cards.{Card, formed, textOf, Fits, Shows}
 use Rattle.card.specs.Answers.{faultOf}
 use Rattle.card.specs.Doors.{cardIn, Outcome, outcome, copied, writeOf, read, unread, readOf, Told, shown, not-shown}
-use Rattle.card.proofs.RunLaws.{fault-none}
+use Rattle.card.proofs.RunLaws.{no-fault, fault-none}
 use Rattle.card.proofs.ShowLaws.{shows-one}
 use Rattle.card.proofs.WriteLaws.{copied-short, write-refused, write-copied}
 use Rattle.card.proofs.DoorLaws.{runsIn, read-refused, read-good, read-not-5, card-in}
 
--- different cards have different texts
+-- different cards in form have different texts
 pub texts-differ : (c d : Card) → formed c ≡ true → formed d ≡ true → Fits c → Fits d → textOf c ≡ textOf d → c ≡ d
 texts-differ c d form form′ fits fits′ same =
     shows-one (record { formed = form; fits = fits; written = refl }) (record { formed = form′; fits = fits′; written = same })
@@ -41,7 +41,7 @@ unfolding copied
 copied-room whole text room = rw (le-ltb (length text) (length whole) room)
 
 -- what a card that is written leaves: its text, and what stood past it
-pub written-is : (runs : ℕ) (c : Card) (text : List ℕ) → writeOf runs c text .written .code ≡ 0
+written-is : (runs : ℕ) (c : Card) (text : List ℕ) → writeOf runs c text .written .code ≡ 0
     → (faultOf runs c ≡ 0) × (writeOf runs c text ≡ outcome 0 (length (textOf c)) (textOf c ++ drop (length (textOf c)) text))
 written-is runs c text good =
     elim (ℕ-discrete (faultOf runs c) 0) [
@@ -56,17 +56,19 @@ written-is runs c text good =
       | no fault ↦ absurd (fault (ap (λ (o : Outcome). o .written .code) (write-refused runs c text refl fault) ∙ good))
     ]
 
--- reading what was written gives the card
-pub read-written : (c : Card) (text : List ℕ) {r : Read} → Fits c → writeOf (runsIn c) c text .written .code ≡ 0
-    → Told (take (writeOf (runsIn c) c text .written .length) (writeOf (runsIn c) c text .left)) readOf (unread 5) r
+-- reading what was written gives the card, which may have said that it has more runs than it has
+pub read-written : (runs : ℕ) (c : Card) (text : List ℕ) {r : Read} → Fits c → runsIn c ≤ runs → writeOf runs c text .written .code ≡ 0
+    → Told (take (writeOf runs c text .written .length) (writeOf runs c text .after)) readOf (unread 5) r
     → (r ≡ read 0 c) × (cardIn (r .card) ≡ c)
-read-written c text {r} fits good told =
-    let (none, wrote) = written-is (runsIn c) c text good in
-    let (form, _, _, few) = fault-none (runsIn c) c none in
-    let front : take (writeOf (runsIn c) c text .written .length) (writeOf (runsIn c) c text .left) ≡ textOf c
+read-written runs c text {r} fits least good told =
+    let (none, wrote) = written-is runs c text good in
+    let (form, low, high, few) = fault-none runs c none in
+    let few′ : runsIn c ≤ 64 = omega arith in
+    let front : take (writeOf runs c text .written .length) (writeOf runs c text .after) ≡ textOf c
     = rw wrote (take-append-seam (textOf c) (drop (length (textOf c)) text)) in
-    let is : r ≡ read 0 c = told-one told (shown c (record { formed = form; fits = fits; written = front }) refl) ∙ read-good c none in
-    (is, ap (λ (x : Read). cardIn (x .card)) is ∙ card-in c form few)
+    let shows = shown c (record { formed = form; fits = fits; written = front }) refl in
+    let is : r ≡ read 0 c = told-one told shows ∙ read-good c (no-fault (runsIn c) c form low high few′) in
+    (is, ap (λ (x : Read). cardIn (x .card)) is ∙ card-in c form few′)
 
 -- writing what was read gives the text
 pub written-read : (text room : List ℕ) {r : Read} → Told text readOf (unread 5) r → r .code ≡ 0 → length text ≤ length room
@@ -92,7 +94,7 @@ refused-5 text (shown c shows is) =
 refused-5 text (not-shown none is) = ((λ five. none), (λ none′. ap (λ (x : Read). x .code) is))
 
 -- a refusal leaves the lent text as it was
-pub write-keeps : (runs : ℕ) (c : Card) (text : List ℕ) → (writeOf runs c text .written .code ≡ 0 → ⊥) → writeOf runs c text .left ≡ text
+pub write-keeps : (runs : ℕ) (c : Card) (text : List ℕ) → (writeOf runs c text .written .code ≡ 0 → ⊥) → writeOf runs c text .after ≡ text
 write-keeps runs c text refused =
     elim (ℕ-discrete (faultOf runs c) 0) [
       | yes none ↦
@@ -100,7 +102,7 @@ write-keeps runs c text refused =
           elim (decLe (length (textOf c)) (length text)) [
             | yes room ↦
                 absurd (refused (ap (λ (o : Outcome). o .written .code) (whole ∙ sym (copied-room (textOf c) text room))))
-            | no short ↦ ap (λ (o : Outcome). o .left) (whole ∙ sym (copied-short (textOf c) text (omega arith)))
+            | no short ↦ ap (λ (o : Outcome). o .after) (whole ∙ sym (copied-short (textOf c) text (omega arith)))
           ]
-      | no fault ↦ ap (λ (o : Outcome). o .left) (sym (write-refused runs c text refl fault))
+      | no fault ↦ ap (λ (o : Outcome). o .after) (sym (write-refused runs c text refl fault))
     ]

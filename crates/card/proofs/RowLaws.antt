@@ -1,7 +1,7 @@
 -- The laws of runs that are read one after another: the 64 places that they are laid into, and the lines that are left.
 use Prim.Native.Nat.{ℕ, zero, suc, _+_, _-_, _≤_, _<_}
 use mathlib.Core.Path.{_≡_, refl, sym, ap, _∙_}
-use mathlib.Core.Bool.{true, _&&_}
+use mathlib.Core.Bool.{true}
 use mathlib.Core.List.{List, [], _∷_, _++_, flatten, append-assoc, append-nil}
 use native.Mathlib.Decide.{decLe, ℕ-discrete}
 use native.Mathlib.Nat.{sub-zero}
@@ -12,17 +12,17 @@ use Rattle.text.specs.Reading.{Found}
 use Rattle.text.proofs.Forms.{found-within}
 use Rattle.counter.proofs.RangeTests.{both-hold, hold-both}
 use Rattle.card.specs.Cards.{runTexts, isSpeed, allSpeeds}
-use Rattle.card.specs.Doors.{places}
+use Rattle.card.specs.Doors.{inPlaces}
 use Rattle.card.specs.Inside.{runForm, IsRun, rowsForm, AreRuns, RowsAt}
 use Rattle.card.proofs.ReadLaws.{run-ends}
 
 -- the places of a row: 64, the first of them the row's
-pub length-places : (row : List ℕ) → length (places row) ≡ 64
-unfolding places
+length-places : (row : List ℕ) → length (inPlaces row) ≡ 64
+unfolding inPlaces
 length-places row = omega (arith, length-take 64 (row ++ replicate 64 0), length-append row (replicate 64 0), length-replicate {A = ℕ} 64 0)
 
-place-at : (row : List ℕ) (k : ℕ) → k < 64 → getD (places row) k 0 ≡ getD row k 0
-unfolding places
+place-at : (row : List ℕ) (k : ℕ) → k < 64 → getD (inPlaces row) k 0 ≡ getD row k 0
+unfolding inPlaces
 place-at row k inside = getD-take 64 (row ++ replicate 64 0) k 0 inside ∙ elim (decLe (length row) k) [
   | yes past ↦
       let here : k ≡ length row + (k - length row) = omega arith in
@@ -34,32 +34,32 @@ place-at row k inside = getD-take 64 (row ++ replicate 64 0) k 0 inside ∙ elim
 ]
 
 -- the places of a short row, and of a long one
-pub row-in : (row : List ℕ) → length row ≤ 64 → take (length row) (places row) ≡ row
-unfolding places
+pub row-in : (row : List ℕ) → length row ≤ 64 → take (length row) (inPlaces row) ≡ row
+unfolding inPlaces
 row-in row few = take-take (length row) 64 (row ++ replicate 64 0) few ∙ take-append-seam row (replicate 64 0)
 
-pub row-cut : (row : List ℕ) → 64 ≤ length row → take 64 (places row) ≡ take 64 row
-unfolding places
+pub row-cut : (row : List ℕ) → 64 ≤ length row → take 64 (inPlaces row) ≡ take 64 row
+unfolding inPlaces
 row-cut row many = take-take 64 64 (row ++ replicate 64 0) (omega arith) ∙ take-append-le 64 row (replicate 64 0) many
 
 -- one more, where there is a place for it
-pub places-more : (row : List ℕ) (value : ℕ) → set (places row) (length row) value ≡ places (row ++ (value ∷ []))
+places-more : (row : List ℕ) (value : ℕ) → set (inPlaces row) (length row) value ≡ inPlaces (row ++ (value ∷ []))
 places-more row value =
-    ext-getD 0 (set (places row) (length row) value) (places (row ++ (value ∷ [])))
-    (length-set (places row) (length row) value ∙ length-places row ∙ sym (length-places (row ++ (value ∷ []))))
+    ext-getD 0 (set (inPlaces row) (length row) value) (inPlaces (row ++ (value ∷ [])))
+    (length-set (inPlaces row) (length row) value ∙ length-places row ∙ sym (length-places (row ++ (value ∷ []))))
     (λ k inside.
-    let inside′ : k < 64 = omega (arith, inside, length-set (places row) (length row) value, length-places row) in
+    let inside′ : k < 64 = omega (arith, inside, length-set (inPlaces row) (length row) value, length-places row) in
     at k inside′ (ℕ-discrete k (length row)) ∙ sym (place-at (row ++ (value ∷ [])) k inside′))
   where
     past-both : (k : ℕ) → (k ≡ length row → ⊥) → length row ≤ k → length (row ++ (value ∷ [])) ≤ k
     past-both k other past = omega (arith, length-append row (value ∷ []))
 
-    at : (k : ℕ) → k < 64 → Dec (k ≡ length row) → getD (set (places row) (length row) value) k 0 ≡ getD (row ++ (value ∷ [])) k 0
+    at : (k : ℕ) → k < 64 → Dec (k ≡ length row) → getD (set (inPlaces row) (length row) value) k 0 ≡ getD (row ++ (value ∷ [])) k 0
     at k inside (yes same) =
         rw same
-        (getD-set-same (places row) (length row) value 0 (omega (arith, same, length-places row)) ∙ sym (getD-append-seam row value [] 0))
+        (getD-set-same (inPlaces row) (length row) value 0 (omega (arith, same, length-places row)) ∙ sym (getD-append-seam row value [] 0))
     at k inside (no other) =
-        getD-set-other (places row) (length row) k value 0 other ∙ place-at row k inside ∙ elim (decLe (length row) k) [
+        getD-set-other (inPlaces row) (length row) k value 0 other ∙ place-at row k inside ∙ elim (decLe (length row) k) [
           | yes past ↦ List·getD-eq-default row 0 past ∙ sym (List·getD-eq-default (row ++ (value ∷ [])) 0 (past-both k other past))
           | no notPast ↦ sym (List·getD-append row (value ∷ []) 0 k (omega arith))
         ]
@@ -111,10 +111,10 @@ texts-more (first ∷ speeds) [] speed turn even = absurd (omega arith)
 texts-more (first ∷ speeds) (other ∷ turns) speed turn even =
     ap (λ l. runForm (first, other) ++ l) (texts-more speeds turns speed turn (omega arith)) ∙ sym (append-assoc (runForm (first, other)) (flatten (runTexts speeds turns)) (runForm (speed, turn)))
 
-abbrev pub with-run : List ℕ × List ℕ → ℕ × ℕ → List ℕ × List ℕ
+abbrev with-run : List ℕ × List ℕ → ℕ × ℕ → List ℕ × List ℕ
 with-run (speeds, turns) (speed, turn) = (speeds ++ (speed ∷ []), turns ++ (turn ∷ []))
 
-pub are-more : (runs : ℕ) (rows : List ℕ × List ℕ) (run : ℕ × ℕ) → AreRuns runs rows → IsRun run → AreRuns (runs + 1) (with-run rows run)
+are-more : (runs : ℕ) (rows : List ℕ × List ℕ) (run : ℕ × ℕ) → AreRuns runs rows → IsRun run → AreRuns (runs + 1) (with-run rows run)
 are-more runs (speeds, turns) (speed, turn) are (right, small) = record {
   speeds = omega (arith, are .speeds, length-append speeds (speed ∷ []));
   turns = omega (arith, are .turns, length-append turns (turn ∷ []));
@@ -134,11 +134,11 @@ pub record Passed (text : List ℕ) (at runs done next : ℕ) (speeds turns : Li
   pub stands : drop at text ≡ rowsForm rows ++ drop next text
   pub behind : (all : List ℕ × List ℕ) → AreRuns runs all → (rest : List ℕ) → drop at text ≡ rowsForm all ++ rest
       → (others : List ℕ × List ℕ) × AreRuns (runs - done) others × (drop next text ≡ rowsForm others ++ rest)
-  pub speeds-laid : speeds ≡ places (rows .0)
-  pub turns-laid : turns ≡ places (rows .1)
+  pub speeds-laid : speeds ≡ inPlaces (rows .0)
+  pub turns-laid : turns ≡ inPlaces (rows .1)
 
 -- none at first
-pub passed-none : {text : List ℕ} {at runs : ℕ} → 0 < at → at ≤ length text → Passed text at runs 0 at (places []) (places [])
+pub passed-none : {text : List ℕ} {at runs : ℕ} → 0 < at → at ≤ length text → Passed text at runs 0 at (inPlaces []) (inPlaces [])
 unfolding runTexts flatten allSpeeds
 passed-none {runs = runs} some within = record {
   most = omega arith;

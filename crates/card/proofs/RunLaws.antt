@@ -1,12 +1,12 @@
 -- The laws of runs: a row of speeds, tested one by one, and what runs add up to, one by one.
-use Prim.Native.Nat.{ℕ, zero, suc, _+_, _-_, _*_, _≤_, _<_}
-use mathlib.Core.Path.{_≡_, refl, sym, ap, _∙_}
+use Prim.Native.Nat.{ℕ, zero, suc, _+_, _*_, _≤_, _<_}
+use mathlib.Core.Path.{_≡_, refl, ap}
 use mathlib.Core.Bool.{Bool, true, false, cond, _&&_}
 use mathlib.Core.List.{List, [], _∷_}
 use native.Mathlib.Nat.{le-of-suc-le-suc}
 use native.Mathlib.Numerals.{add-one}
 use native.Mathlib.Omega.{arith}
-use borrow.Author.Tests.{eqb-true, leb-true}
+use borrow.Author.Tests.{eqb-true, leb-true, le-leb}
 use lib.Dec.{eqb, leb}
 use lib.ListN.{length, drop, getD, drop-of-length-le}
 use lib.Seq.{drop-cons}
@@ -47,13 +47,6 @@ module _ (speeds turns : List ℕ) (at : ℕ) where
     unfolding timeOf
     time-next = rw (drop-cons speeds at 0 inside, drop-cons turns at 0 (omega arith), add-one)
 
--- every one is a speed
-pub speeds-each : (speeds : List ℕ) (k : ℕ) → allSpeeds speeds ≡ true → k < length speeds → isSpeed (getD speeds k 0) ≡ true
-unfolding allSpeeds
-speeds-each [] k all inside = absurd (omega arith)
-speeds-each (speed ∷ speeds) zero all inside = both-hold (isSpeed speed) (allSpeeds speeds) all .0
-speeds-each (speed ∷ speeds) (suc k) all inside = speeds-each speeds k (both-hold (isSpeed speed) (allSpeeds speeds) all .1) (le-of-suc-le-suc inside)
-
 -- there are lines for each run
 pub length-texts : (speeds turns : List ℕ) → length turns ≡ length speeds → length (runTexts speeds turns) ≡ length speeds
 unfolding runTexts
@@ -88,3 +81,7 @@ fault-none runs c none = go (formed c) (leb 1 (c .allowed)) (leb (c .allowed) 10
     go true true false few′ form least most few none = absurd (omega (arith, none))
     go true false most′ few′ form least most few none = absurd (omega (arith, none))
     go false least′ most′ few′ form least most few none = absurd (omega (arith, none))
+
+pub no-fault : (runs : ℕ) (c : Card) → formed c ≡ true → 1 ≤ c .allowed → c .allowed ≤ 1000000 → runs ≤ 64 → faultOf runs c ≡ 0
+unfolding faultOf limitFault
+no-fault runs c form low high few = rw (form, le-leb 1 (c .allowed) low, le-leb (c .allowed) 1000000 high, le-leb runs 64 few)

@@ -1,17 +1,16 @@
 -- What a text shows: the whole of a card as one form, which ends by itself, so that no text shows two cards.
 use Prim.Native.Nat.{ℕ, zero, suc, _≤_, _<_, zero-le}
 use mathlib.Core.Path.{_≡_, refl, sym, ap, _∙_}
-use mathlib.Core.Bool.{true}
 use mathlib.Core.List.{List, [], _∷_, _++_, append-nil, append-assoc, flatten}
 use native.Mathlib.Decide.{decLe}
 use native.Mathlib.Omega.{arith}
 use borrow.Author.Tests.{eq-eqb}
-use lib.ListN.{length, drop, getD, drop-of-length-le, length-drop}
+use lib.ListN.{length, drop, drop-of-length-le, length-drop}
 use Rattle.text.specs.Reading.{Found, both, Both}
-use Rattle.text.proofs.Forms.{Ends, ends-then, found-within, found-first, found-then}
+use Rattle.text.proofs.Forms.{Ends, ends-then, found-within, found-then}
 use Rattle.counter.proofs.RangeTests.{hold-both}
-use Rattle.card.specs.Cards.{Card, card, runTexts, textOf, Fits, Shows}
-use Rattle.card.specs.Inside.{headForm, SmallHead, runForm, rowsForm, AreRuns, RowsAt, WholeAt}
+use Rattle.card.specs.Cards.{Card, card, runTexts, textOf, Shows}
+use Rattle.card.specs.Inside.{headForm, SmallHead, rowsForm, AreRuns, RowsAt, WholeAt}
 use Rattle.card.specs.declared.reading.Head.{Head}
 use Rattle.card.proofs.RunLaws.{in-form}
 use Rattle.card.proofs.ReadLaws.{head-ends, run-ends}
@@ -39,7 +38,7 @@ rows-same (suc runs) (speed ∷ speeds, turn ∷ turns) (speed′ ∷ speeds′,
     let (sames, end) = rows-same runs (speeds, turns) (speeds′, turns′) xs ys rest rest′ behind in
     ((λ i. (same i .0 ∷ sames i .0, same i .1 ∷ sames i .1)), end)
 
-pub rows-end : (runs : ℕ) → Ends rowsForm (AreRuns runs)
+rows-end : (runs : ℕ) → Ends rowsForm (AreRuns runs)
 rows-end runs = record { same = rows-same runs }
 
 -- a card in parts, one behind another

@@ -1,10 +1,8 @@
 -- The card of the worked example, computed from the definitions: its text, and what it answers at four counts.
-use Prim.Native.Nat.{ℕ}
 use mathlib.Core.Path.{_≡_, refl}
-use mathlib.Core.List.{List, [], _∷_, map, flatten}
+use mathlib.Core.List.{[], _∷_, map, flatten}
 use lib.IntN.{pos}
 use Rattle.text.specs.Text.{digits, decimal, line, bytesOf}
-use Rattle.card.specs.declared.Answer.{Answer}
 use Rattle.card.specs.Cards.{Card, card, runTexts, textOf, allSpeeds}
 use Rattle.card.specs.Answers.{limitFault, faultOf, total, timeOf, answer, refused, usedOf, answerOf}
 

@@ -1,10 +1,9 @@
 -- What a card answers (document 02, P4), and what it is refused for.
 use Prim.Native.Nat.{ℕ, _+_, _-_, _*_}
-use mathlib.Core.Bool.{Bool, cond, _&&_}
+use mathlib.Core.Bool.{cond, _&&_}
 use mathlib.Core.List.{List, [], _∷_}
 use lib.Dec.{eqb, ltb, leb}
 use lib.IntN.{ℤ, pos, _-ℤ_}
-use lib.ListN.{length}
 use Rattle.counter.specs.declared.verdict.Answer as counter
 use Rattle.card.specs.declared.Answer.{Answer}
 use Rattle.card.specs.declared.ChipAnswer.{ChipAnswer}
@@ -14,7 +13,7 @@ use Rattle.card.specs.Cards.{Card, formed}
 unfoldable pub limitFault : ℕ → ℕ → ℕ
 limitFault allowed runs = cond (leb 1 allowed && leb allowed 1000000) (cond (leb runs 64) 0 4) 1
 
--- what a card is refused for by itself, in this order: 5 not in form, 1, 4
+-- what a card that says it has so many runs is refused for by itself, in this order: 5 not in form, 1, 4
 unfoldable pub faultOf : ℕ → Card → ℕ
 faultOf runs c = cond (formed c) (limitFault (c .allowed) runs) 5
 
@@ -49,10 +48,11 @@ usedOf c count =
 unfoldable pub answerOf : ℕ → Card → ℕ → Answer
 answerOf runs c count = cond (eqb (faultOf runs c) 0) (usedOf c count) (refused (faultOf runs c))
 
--- the same at the count that a chip was read as. Where the read is refused its code stands beside the card's own, and the rest is 0
+-- only two codes, that of a chip's read and the card's own: the rest is 0
 abbrev pub chipRefused : counter.Answer → ℕ → ChipAnswer
 chipRefused found code = record { read = found .code; answer = refused code }
 
+-- what a card answers at the count that a chip was read as; where the read is refused, the two codes
 unfoldable pub chipAnswerOf : ℕ → Card → counter.Answer → ChipAnswer
 chipAnswerOf runs c found =
     cond (eqb (found .code) 0) (record { read = 0; answer = answerOf runs c (found .count) }) (chipRefused found (faultOf runs c))

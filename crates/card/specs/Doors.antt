@@ -12,24 +12,24 @@ use Rattle.card.specs.Cards.{Card, card, textOf, Shows}
 use Rattle.card.specs.Answers.{faultOf}
 
 -- the card that a value of type Card holds: of its 64 places those that have a run. It may say that it has more runs than places, and is
--- then refused 4
+-- then refused, with 4 where neither 5 nor 1 is met
 abbrev pub cardIn : held.Card → Card
 cardIn h = card (h .fitted) (h .allowed) (take (h .runs) (h .speeds)) (take (h .runs) (h .turns))
 
 -- a row laid out in 64 places, with zeros past its end; and a card so
-unfoldable pub places : List ℕ → List ℕ
-places row = take 64 (row ++ replicate 64 0)
+unfoldable pub inPlaces : List ℕ → List ℕ
+inPlaces row = take 64 (row ++ replicate 64 0)
 
 abbrev pub laidOut : Card → held.Card
-laidOut c = record { fitted = c .fitted; allowed = c .allowed; runs = length (c .speeds); speeds = places (c .speeds); turns = places (c .turns) }
+laidOut c = record { fitted = c .fitted; allowed = c .allowed; runs = length (c .speeds); speeds = inPlaces (c .speeds); turns = inPlaces (c .turns) }
 
 -- writing: an answer, and the lent text as it is left; 6 the room is too short
 pub record Outcome : Type 0 where
   pub written : Written
-  pub left : List ℕ
+  pub after : List ℕ
 
 abbrev pub outcome : ℕ → ℕ → List ℕ → Outcome
-outcome code length left = record { written = record { code = code; length = length }; left = left }
+outcome code length after = record { written = record { code = code; length = length }; after = after }
 
 unfoldable pub copied : List ℕ → List ℕ → Outcome
 copied whole text = cond (ltb (length text) (length whole)) (outcome 6 0 text) (outcome 0 (length whole) (whole ++ drop (length whole) text))

@@ -8,7 +8,7 @@ use Rattle.text.specs.Text.{decimal}
 use Rattle.text.specs.Reading.{Small, Found, both, Both}
 use Rattle.card.specs.declared.reading.Head.{Head}
 use Rattle.card.specs.Cards.{Card, card, Shows, fittedLine, allowedLine, runsLine, speedLine, turnsLine, runTexts, isSpeed, allSpeeds}
-use Rattle.card.specs.Doors.{places}
+use Rattle.card.specs.Doors.{inPlaces}
 
 -- how long the lines of a run are, with a speed of two digits, and those of all runs
 abbrev pub runLength : ℕ → ℕ
@@ -49,22 +49,22 @@ pub record AreRuns (runs : ℕ) (rows : List ℕ × List ℕ) : Type 0 where
   pub speeds : length (rows .0) ≡ runs
   pub turns : length (rows .1) ≡ runs
   pub right : allSpeeds (rows .0) ≡ true
-  pub small : (k : ℕ) → getD (rows .1) k 0 < 4294967296
+  pub small : (k : ℕ) → Small (getD (rows .1) k 0)
 
 -- so many runs were read from an index on up to the next, into 64 places; or none of these stands there, where that is 0
 pub record RowsAt (text : List ℕ) (at runs next : ℕ) (speeds turns : List ℕ) : Type 0 where
   pub rows : List ℕ × List ℕ
   pub found : Found rowsForm (AreRuns runs) text at rows next
-  pub speeds-laid : 0 < next → speeds ≡ places (rows .0)
-  pub turns-laid : 0 < next → turns ≡ places (rows .1)
+  pub speeds-laid : 0 < next → speeds ≡ inPlaces (rows .0)
+  pub turns-laid : 0 < next → turns ≡ inPlaces (rows .1)
 
 -- all of a text was read: the card that it shows, its runs in 64 places; or, where the next index is 0, it shows none
 pub record CardAt (text : List ℕ) (head : Head) (speeds turns : List ℕ) : Type 0 where
   pub rows : List ℕ × List ℕ
   pub shows : Shows text (card (head .fitted) (head .allowed) (rows .0) (rows .1))
   pub long : length (rows .0) ≡ head .runs
-  pub speeds-laid : speeds ≡ places (rows .0)
-  pub turns-laid : turns ≡ places (rows .1)
+  pub speeds-laid : speeds ≡ inPlaces (rows .0)
+  pub turns-laid : turns ≡ inPlaces (rows .1)
 
 pub record WholeAt (text : List ℕ) (head : Head) (speeds turns : List ℕ) : Type 0 where
   pub there : 0 < head .next → CardAt text head speeds turns

@@ -1,4 +1,4 @@
-// A text read as a card. Each function reads from an index on, and answers the index past what it found, or 0 where that is not there.
+// A text read as a card. A function that reads something answers the index past it, or 0 where it is not there.
 use super::runs::is_speed;
 use text::reading::read_decimal_line;
 ghost use Prim.Native.Nat.{_≤_, _<_};
@@ -6,7 +6,7 @@ ghost use mathlib.Core.Path.{_≡_};
 ghost use mathlib.Core.List.{[]};
 ghost use lib.ListN.{length, set};
 ghost use Rattle.text.specs.Reading.{Found};
-ghost use Rattle.card.specs.Doors.{places};
+ghost use Rattle.card.specs.Doors.{inPlaces};
 ghost use Rattle.card.specs.Inside.{headForm, SmallHead, runForm, IsRun, RowsAt, WholeAt};
 
 // What stands before the runs.
@@ -100,7 +100,7 @@ fn keep(row: &mut [u32], at: usize, value: u32)
 
 // Reads so many runs into places that have none yet. Those past the last place are read for their form, and not kept.
 fn read_runs(text: &[u8], at: usize, runs: usize, speeds: &mut [u32], turns: &mut [u32]) -> usize
-    requires { ⌜ (0 < at) × (at ≤ length (now text)) × (now speeds ≡ places []) × (now turns ≡ places []) ⌝ }
+    requires { ⌜ (0 < at) × (at ≤ length (now text)) × (now speeds ≡ inPlaces []) × (now turns ≡ inPlaces []) ⌝ }
     ensures { λ r. ⌜ RowsAt (now (text .entry)) at runs r (now (speeds .exit)) (now (turns .exit)) ⌝ }
 {
     let mut next = at;
@@ -118,9 +118,9 @@ fn read_runs(text: &[u8], at: usize, runs: usize, speeds: &mut [u32], turns: &mu
     next
 }
 
-// Reads all of a text, its runs into places that have none yet.
+// Reads all of a text, its runs into places that have none yet, and answers what stands before them.
 pub(crate) fn read_whole(text: &[u8], speeds: &mut [u32], turns: &mut [u32]) -> Head
-    requires { ⌜ (now speeds ≡ places []) × (now turns ≡ places []) ⌝ }
+    requires { ⌜ (now speeds ≡ inPlaces []) × (now turns ≡ inPlaces []) ⌝ }
     ensures { λ r. ⌜ WholeAt (now (text .entry)) r (now (speeds .exit)) (now (turns .exit)) ⌝ }
 {
     let head = read_head(text);

@@ -6,7 +6,7 @@ ghost use mathlib.Core.Path.{_≡_};
 ghost use mathlib.Core.Bool.{true};
 ghost use mathlib.Core.List.{flatten};
 ghost use lib.ListN.{length};
-ghost use Rattle.text.specs.Text.{decimal, Wrote};
+ghost use Rattle.text.specs.Text.{Wrote};
 ghost use Rattle.card.specs.Cards.{card, headText, runText, runTexts, textOf, formed};
 ghost use Rattle.card.specs.Doors.{outcome, writeOf};
 ghost use Rattle.card.specs.Inside.{runLength, runsLength};

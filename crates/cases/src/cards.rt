@@ -86,7 +86,7 @@ fn overrun_and_unused() {
     say_text(b"P4 no runs, count 100, answer", head(b"5000", b"0"), 100);
 }
 
-// Each side of the two limits; and a number above 4294967295, which is not in form.
+// Outside both limits, and at the upper one; and a number above 4294967295, which is not in form.
 fn allowances() {
     say_text(b"P4 allowed 0, count 113, answer", allowing(b"0"), 113);
     say_text(

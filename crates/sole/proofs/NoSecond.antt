@@ -216,6 +216,12 @@ module _ {M : Type 1} (𝓤 : URA M) where
     pub lyre-hex-read-one : Sole 𝓤 lyre_hex_read.ended (lyre_hex_read.clauses 𝓤 H A mem run) (λ κs r at. filled r (now (at .1 .0)))
     lyre-hex-read-one _ _ _ _ _ _ _ = same (λ v. filled (hexOut (v .answer)) (v .left))
 
+    pub lyre-card-at-one : Sole 𝓤 lyre_card_at.ended (lyre_card_at.clauses 𝓤 H A mem run) (λ κs r at. r)
+    lyre-card-at-one _ _ _ _ _ _ _ = both (λ one two. ap cardOut (told-one one two))
+
+    pub lyre-card-write-one : Sole 𝓤 lyre_card_write.ended (lyre_card_write.clauses 𝓤 H A mem run) (λ κs r at. filled r (now (at .1 .1 .1 .1 .0)))
+    lyre-card-write-one _ _ _ _ _ _ _ = same (λ v. filled (textOut (v .written)) (v .after))
+
     pub write-image-one : Sole 𝓤 write_image.ended (write_image.clauses 𝓤 H A mem run) (λ κs r at. filled r (now (at .1 .0)))
     write-image-one _ _ _ _ _ _ _ = same (λ v. filled (v .answer) (v .left))
 
@@ -247,10 +253,10 @@ module _ {M : Type 1} (𝓤 : URA M) where
     read-decimal-line-one _ _ _ _ _ _ _ = both (finds-one (line-ends _ Small))
 
     pub write-card-one : Sole 𝓤 write_card.ended (write_card.clauses 𝓤 H A mem run) (λ κs r at. filled r (now (at .1 .0)))
-    write-card-one _ _ _ _ _ _ _ = same (λ v. filled (v .written) (v .left))
+    write-card-one _ _ _ _ _ _ _ = same (λ v. filled (v .written) (v .after))
 
     pub write-rows-one : Sole 𝓤 write_rows.ended (write_rows.clauses 𝓤 H A mem run) (λ κs r at. filled r (now (at .1 .1 .1 .1 .0)))
-    write-rows-one _ _ _ _ _ _ _ = same (λ v. filled (v .written) (v .left))
+    write-rows-one _ _ _ _ _ _ _ = same (λ v. filled (v .written) (v .after))
 
     pub read-card-one : Sole 𝓤 read_card.ended (read_card.clauses 𝓤 H A mem run) (λ κs r at. r)
     read-card-one _ _ _ _ _ _ _ = both told-one
@@ -263,9 +269,3 @@ module _ {M : Type 1} (𝓤 : URA M) where
 
     pub answer-of-chip-one : Sole 𝓤 answer_of_chip.ended (answer_of_chip.clauses 𝓤 H A mem run) (λ κs r at. r)
     answer-of-chip-one _ _ _ _ _ _ _ = same (λ r. r)
-
-    pub lyre-card-at-one : Sole 𝓤 lyre_card_at.ended (lyre_card_at.clauses 𝓤 H A mem run) (λ κs r at. r)
-    lyre-card-at-one _ _ _ _ _ _ _ = both (λ one two. ap cardOut (told-one one two))
-
-    pub lyre-card-write-one : Sole 𝓤 lyre_card_write.ended (lyre_card_write.clauses 𝓤 H A mem run) (λ κs r at. filled r (now (at .1 .1 .1 .1 .0)))
-    lyre-card-write-one _ _ _ _ _ _ _ = same (λ v. filled (textOut (v .written)) (v .left))

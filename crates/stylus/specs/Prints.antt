@@ -29,7 +29,7 @@ readWords code =
     (cond (eqb code 5) (bytesOf "chip: a nibble is lost in both copies\n")
     (bytesOf "chip: the copies disagree\n"))))))
 
--- the words of each refusal of a card
+-- the words of each refusal of a card; 6, which is writing's, is never met
 unfoldable pub cardWords : ℕ → List ℕ
 cardWords code =
     cond (eqb code 0) []

@@ -8,7 +8,8 @@ use native.Mathlib.Numerals.{add-one}
 use lib.ListN.{length, take, drop, getD, length-append, length-drop, take-append-drop, List·getD-append}
 use lib.Seq.{take-suc, take-length, getD-drop, drop-drop, drop-cons}
 use Rattle.text.specs.Text.{digit}
-use Rattle.text.specs.Reading.{Stands, DigitAt, Found, Finds}
+use Rattle.text.specs.Reading.{Finds}
+use Rattle.text.specs.Inside.{Stands, DigitAt}
 use Rattle.text.specs.declared.reading.Number.{Number}
 
 module _ (word text : List ℕ) (at : ℕ) where

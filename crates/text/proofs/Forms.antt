@@ -17,13 +17,14 @@ use native.Mathlib.Decide.{ℕ-discrete}
 use native.Mathlib.Omega.{arith}
 use lib.ListN.{length, drop, length-append, length-drop}
 use Rattle.text.specs.Text.{equals, lineFeed, decimal, line}
-use Rattle.text.specs.Reading.{Stands, Small, Found, Finds, closed, both, Both}
+use Rattle.text.specs.Reading.{Small, Found, Finds, both, Both}
+use Rattle.text.specs.Inside.{Stands, closed}
 use Rattle.text.specs.declared.reading.Number.{Number}
 use Rattle.text.proofs.Finding.{same-behind, same-rest, finds-none}
 use Rattle.text.proofs.ReadDecimals.{closed-alone}
 
 -- a value behind a word
-pub word-then : (word : List ℕ) {A : Type 0} {form : A → List ℕ} {allowed : A → Type 0} {text : List ℕ} {at : ℕ} {value : A} {next : ℕ}
+word-then : (word : List ℕ) {A : Type 0} {form : A → List ℕ} {allowed : A → Type 0} {text : List ℕ} {at : ℕ} {value : A} {next : ℕ}
     → drop at text ≡ word ++ drop (at + length word) text → Found form allowed text (at + length word) value next
     → Found (λ a. word ++ form a) allowed text at value next
 word-then word {form = form} {text = text} {value = value} {next = next} stands found = record {

@@ -7,13 +7,14 @@ use lib.Dec.{lit<}
 use lib.ListN.{length, drop, getD, length-append, length-drop, List·getD-append}
 use lib.Seq.{getD-append-seam}
 use Rattle.text.specs.Text.{digit, lineFeed, decimal}
-use Rattle.text.specs.Reading.{DigitAt, Small, Found, Finds, closed}
+use Rattle.text.specs.Reading.{Small, Finds}
+use Rattle.text.specs.Inside.{DigitAt, closed}
 use Rattle.text.specs.declared.reading.Number.{Number}
 use Rattle.text.proofs.Decimals.{decimal-small, decimal-more, all-digits, length-positive, decimal-injective, no-leading-zero, front-least}
 use Rattle.text.proofs.Finding.{same-first, same-rest, front-of, inside, finds-none}
 
 -- the digits of a number so far: none before the first
-abbrev pub soFar : ℕ → List ℕ
+abbrev soFar : ℕ → List ℕ
 soFar zero = []
 soFar (suc n) = decimal (suc n)
 
@@ -30,7 +31,7 @@ no-line-feed : (n k : ℕ) → k < length (decimal n) → getD (decimal n) k 0 �
 no-line-feed n k inside same = omega (arith, all-digits n k inside)
 
 -- digits so far, where a decimal stands that a line feed closes: they are its front, and the rest of it stands behind them
-pub decimal-front : (m n : ℕ) (xs ys : List ℕ) → soFar m ++ xs ≡ decimal n ++ (lineFeed ∷ ys)
+decimal-front : (m n : ℕ) (xs ys : List ℕ) → soFar m ++ xs ≡ decimal n ++ (lineFeed ∷ ys)
     → (more : List ℕ) × (decimal n ≡ soFar m ++ more) × (xs ≡ more ++ (lineFeed ∷ ys))
 decimal-front zero n xs ys same = (decimal n, refl, same)
 decimal-front (suc m) n xs ys same = front-of (decimal (suc m)) (decimal n) xs ys lineFeed (no-line-feed (suc m)) same

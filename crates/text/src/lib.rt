@@ -1,4 +1,4 @@
-// Lines of key=value written into a lent text. Each function writes from an index on, asks for room for
+// Lines of key=value written into a lent text. A function that writes does so from an index on, asks for room for
 // what it writes, and answers the index past it. Module `reading` reads them.
 pub mod reading;
 

@@ -1,11 +1,12 @@
-// Lines of key=value read from a lent text. Each function reads from an index on, and answers the index past what it
-// found, or 0 where that is not there.
-ghost use Prim.Native.Nat.{_+_, _≤_, _<_};
+// Lines of key=value read from a lent text. A function that reads something reads it from an index on, and answers the index
+// past it, or 0 where it is not there.
+ghost use Prim.Native.Nat.{_≤_};
 ghost use mathlib.Core.Path.{_≡_};
-ghost use mathlib.Core.List.{[], _∷_, _++_};
+ghost use mathlib.Core.List.{[], _∷_};
 ghost use lib.ListN.{length};
 ghost use Rattle.text.specs.Text.{lineFeed, decimal, line};
-ghost use Rattle.text.specs.Reading.{Stands, DigitAt, Small, Finds, closed};
+ghost use Rattle.text.specs.Reading.{Small, Finds};
+ghost use Rattle.text.specs.Inside.{Stands, DigitAt, closed};
 
 // The highest number of 32 bits.
 const LAST: u64 = 4294967295;

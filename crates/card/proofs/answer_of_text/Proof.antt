@@ -2,14 +2,14 @@
 use mathlib.Core.Path.{refl}
 use native.Mathlib.Omega.{arith}
 use borrow.Author.Needs.{needs}
-use Rattle.card.specs.Doors.{places, not-shown}
+use Rattle.card.specs.Doors.{inPlaces, not-shown}
 use Rattle.card.proofs.HeldLaws.{Held, held-length, held-runs}
 use Rattle.card.proofs.DoorLaws.{told-answer}
 use Rattle.card.proofs.answer_of_text.Statement.{statement}
 use Rattle.card.proofs.answer_of_text.Tie as tie
 
 read-whole-requires : tie.Need-read-whole-requires
-unfolding places
+unfolding inPlaces
 read-whole-requires c κs = (refl, refl)
 
 -- the places of each row

@@ -2,13 +2,13 @@
 use mathlib.Core.Path.{refl}
 use native.Mathlib.Omega.{arith}
 use borrow.Author.Needs.{needs}
-use Rattle.card.specs.Doors.{places, not-shown}
+use Rattle.card.specs.Doors.{inPlaces, not-shown}
 use Rattle.card.proofs.DoorLaws.{told-refused, told-read}
 use Rattle.card.proofs.read_card.Statement.{statement}
 use Rattle.card.proofs.read_card.Tie as tie
 
 read-whole-requires : tie.Need-read-whole-requires
-unfolding places
+unfolding inPlaces
 read-whole-requires c κs = (refl, refl)
 
 returns : tie.Need-returns

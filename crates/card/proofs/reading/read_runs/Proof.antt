@@ -1,10 +1,10 @@
 -- `read_runs` meets its contract. The invariant of its loop: the first `done` runs were read. The measure is how many are left.
 use Prim.Native.Nat.{_-_}
-use mathlib.Core.Path.{_≡_, refl, sym, ap, _∙_}
+use mathlib.Core.Path.{_≡_, refl, _∙_}
 use native.Mathlib.Omega.{arith}
 use borrow.Author.Needs.{needs}
 use lib.ListN.{length}
-use Rattle.card.proofs.RowLaws.{length-places, Passed, passed-none, passed-stuck, passed-more, passed-all}
+use Rattle.card.proofs.RowLaws.{Passed, passed-none, passed-stuck, passed-more, passed-all}
 use Rattle.card.proofs.reading.read_runs.Statement.{statement}
 use Rattle.card.proofs.reading.read_runs.Tie as tie
 

@@ -1,7 +1,7 @@
 -- `cut_in` meets its contract. The invariant of its loop: with the runs that are left the sums come to those of all. The measure is how
 -- many are left.
 use Prim.Native.Nat.{_+_, _-_, _*_, _≤_}
-use mathlib.Core.Path.{_≡_, refl, sym, ap, _∙_}
+use mathlib.Core.Path.{_≡_}
 use native.Mathlib.Omega.{arith}
 use borrow.Author.Needs.{needs}
 use lib.ListN.{length, drop}

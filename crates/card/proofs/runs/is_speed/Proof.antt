@@ -1,5 +1,4 @@
 -- `is_speed` meets its contract.
-use mathlib.Core.Path.{_≡_}
 use borrow.Author.Tests.{ne-eqb}
 use Rattle.card.proofs.runs.is_speed.Statement.{statement}
 use Rattle.card.proofs.runs.is_speed.Tie as tie

@@ -1,5 +1,5 @@
 -- `write_held` meets its contract: the length is the text's, so that it is written where there is room for it.
-use Prim.Native.Nat.{_+_, _≤_}
+use Prim.Native.Nat.{_+_}
 use mathlib.Core.Path.{_≡_, refl, sym, _∙_}
 use mathlib.Core.Bool.{true}
 use native.Mathlib.Omega.{arith}

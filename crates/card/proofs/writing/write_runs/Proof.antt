@@ -1,7 +1,7 @@
 -- `write_runs` meets its contract. The invariant of its loop: the lines of the runs passed were written. The measure is how many are left.
 use Prim.Native.Nat.{_+_, _-_, _≤_}
 use mathlib.Core.Path.{_≡_, refl, _∙_}
-use mathlib.Core.List.{[], flatten}
+use mathlib.Core.List.{flatten}
 use native.Mathlib.Omega.{arith}
 use borrow.Author.Needs.{needs}
 use lib.ListN.{length, take, drop}

@@ -6,7 +6,7 @@ use native.Mathlib.Omega.{arith}
 use borrow.Author.Needs.{needs}
 use lib.ListN.{length}
 use denote.Ref.{now}
-use Rattle.text.specs.Reading.{DigitAt}
+use Rattle.text.specs.Inside.{DigitAt}
 use Rattle.text.proofs.Finding.{inside}
 use Rattle.text.proofs.ReadDecimals.{Read, next-stands, too-large, no-digit, decimal-closed, zero-closed}
 use Rattle.text.proofs.reading.read_decimal.Statement.{statement}
