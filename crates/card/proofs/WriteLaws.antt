@@ -1,16 +1,17 @@
 -- The laws of writing a card: how long its lines are, and what writing it leaves.
-use Prim.Native.Nat.{ℕ, suc, _+_, _≤_, _<_}
+use Prim.Native.Nat.{ℕ, suc, _+_, _/_, _≤_, _<_}
 use mathlib.Core.Path.{_≡_, refl, sym, ap, _∙_}
 use mathlib.Core.Bool.{Bool, true, false, _||_, true≢false}
 use mathlib.Core.List.{List, [], _∷_, _++_, flatten}
 use native.Mathlib.Omega.{arith}
 use borrow.Author.Tests.{eqb-true, lt-ltb, le-ltb, eq-eqb, ne-eqb}
-use lib.Dec.{eqb}
+use lib.Dec.{eqb, lit<, lit≤}
 use native.Mathlib.Nat.{zero-add}
 use native.Mathlib.Numerals.{add-one}
 use lib.ListN.{length, drop, getD, length-append, drop-of-length-le}
 use lib.Seq.{drop-cons}
-use Rattle.text.specs.Text.{bytesOf, digits, decimal, Wrote}
+use Rattle.text.specs.Text.{bytesOf, decimal, Wrote}
+use Rattle.text.proofs.Decimals.{length-small, length-more}
 use Rattle.text.proofs.Writing.{length-line}
 use Rattle.card.specs.Cards.{Card, fittedLine, allowedLine, runsLine, speedLine, turnsLine, headText, runText, runTexts, textOf, isSpeed, allSpeeds, formed}
 use Rattle.card.specs.Answers.{faultOf}
@@ -46,8 +47,10 @@ pub run-lines : (speed turns : ℕ) → length (runText speed turns) ≡ length 
 run-lines speed turns = length-append (speedLine speed) (turnsLine turns)
 
 two-digits : (speed : ℕ) → isSpeed speed ≡ true → length (decimal speed) ≡ 2
-unfolding decimal digits
-two-digits speed is = two-speeds (λ s. length (decimal s) ≡ 2) speed is refl refl
+two-digits speed is = two-speeds (λ s. length (decimal s) ≡ 2) speed is (two 33 (lit≤ tt) (lit< tt)) (two 45 (lit≤ tt) (lit< tt))
+  where
+    two : (n : ℕ) → 10 ≤ n → n < 100 → length (decimal n) ≡ 2
+    two n low high = omega (arith, length-more n low, length-small (n / 10) (omega arith))
 
 length-run : (speed turns : ℕ) → isSpeed speed ≡ true → length (runText speed turns) ≡ runLength turns
 length-run speed turns is =
