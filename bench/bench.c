@@ -1,6 +1,7 @@
 /* Prints the table of instructions per call, the archive beside fast.c, on the same chips in one run. Use: bench STEPS, where
    STEPS is 4096 for the figures of record. Answers, cells and lives are compared on the way. Ends with 1 where the archive takes
-   more than fast.c in one of the usual calls: a step, a read, an open of what was opened before. */
+   more than fast.c in one of the usual calls: a step, a read, an open of what was opened before. It also does where the archive
+   takes more in one step or read of a clean chip than in another. */
 
 #include <inttypes.h>
 #include <stdio.h>
@@ -24,6 +25,12 @@ static int status;
 typedef struct {
     uint64_t archive, c;
 } figures;
+
+/* Calls of one kind: how many, what all of them took together, and what one took at the least and at the most. */
+typedef struct {
+    uint64_t number;
+    figures sum, least, greatest;
+} calls;
 
 /* The fields of an answer fill it, so that its bytes may be compared. */
 static void same(const void *one, const void *other, size_t size, uint32_t code)
@@ -72,23 +79,36 @@ static void lay_blank(void)
     ours = theirs;
 }
 
-static void add(figures *sum, figures one)
+static uint64_t lesser(uint64_t one, uint64_t other)
 {
-    sum->archive += one.archive;
-    sum->c += one.c;
+    return one < other ? one : other;
 }
 
-static void row(const char *name, figures sum, uint64_t calls)
+static uint64_t greater(uint64_t one, uint64_t other)
 {
-    printf("%-52s %10.1f %10.1f %8.2f\n", name, (double)sum.archive / (double)calls, (double)sum.c / (double)calls,
+    return one > other ? one : other;
+}
+
+static void add(calls *all, figures one)
+{
+    if (all->number++ == 0)
+        all->least = all->greatest = one;
+    all->sum = (figures){all->sum.archive + one.archive, all->sum.c + one.c};
+    all->least = (figures){lesser(all->least.archive, one.archive), lesser(all->least.c, one.c)};
+    all->greatest = (figures){greater(all->greatest.archive, one.archive), greater(all->greatest.c, one.c)};
+}
+
+static void row(const char *name, figures sum, uint64_t number)
+{
+    printf("%-52s %10.1f %10.1f %8.2f\n", name, (double)sum.archive / (double)number, (double)sum.c / (double)number,
            (double)sum.archive / (double)sum.c);
     fflush(stdout);
 }
 
 /* Sums are compared, since a ratio printed as 1.00 may be above it. */
-static void usual_row(const char *name, figures sum, uint64_t calls)
+static void usual_row(const char *name, figures sum, uint64_t number)
 {
-    row(name, sum, calls);
+    row(name, sum, number);
     if (sum.archive <= sum.c)
         return;
     printf("bench: in this row the archive takes %" PRIu64 " instructions, and may take no more than the %" PRIu64 " of C\n",
@@ -96,17 +116,36 @@ static void usual_row(const char *name, figures sum, uint64_t calls)
     status = 1;
 }
 
+static const char *named(const char *door, const char *which, const char *when, uint64_t steps)
+{
+    static char name[60];
+    snprintf(name, sizeof name, "%s, setting A, %s %s steps 1 to %" PRIu64, door, which, when, steps);
+    return name;
+}
+
+/* The mean, the least and the greatest of one door's calls on a clean chip. */
+static void even_rows(const char *door, const char *when, const calls *all)
+{
+    usual_row(named(door, "mean", when, all->number), all->sum, all->number);
+    row(named(door, "least", when, all->number), all->least, 1);
+    row(named(door, "greatest", when, all->number), all->greatest, 1);
+    if (all->least.archive == all->greatest.archive)
+        return;
+    printf("bench: the archive takes more in one of these calls than in another\n");
+    status = 1;
+}
+
 /* Cells 65 to 127 are worn, so that Low cells are 128 and those from 64 down: 128 and 64 are the same modulo 64. */
 static void worn_row(void)
 {
-    figures stepped = {0};
+    calls stepped = {0};
     lay_blank();
     for (size_t i = 65; i <= 127; i++)
         theirs.lives[i] = ours.lives[i] = 0;
     open_both(setting_a);
     for (int done = 0; done < 16; done++)
         add(&stepped, step_both(setting_a));
-    row("step, setting A, pointers alike modulo 64", stepped, 16);
+    row("step, setting A, pointers alike modulo 64", stepped.sum, stepped.number);
 }
 
 /* Bit 0 of copy 1's nibble 0 is wrong, and bit 6 of copy 2's nibble 7. */
@@ -121,7 +160,7 @@ static void mended_row(void)
 
 static void setting_a_rows(uint64_t steps)
 {
-    figures stepped = {0}, read = {0};
+    calls stepped = {0}, read = {0};
     lay_blank();
     figures opened = open_both(setting_a);
     figures again = open_both(setting_a);
@@ -129,11 +168,8 @@ static void setting_a_rows(uint64_t steps)
         add(&stepped, step_both(setting_a));
         add(&read, read_both(setting_a));
     }
-    char name[60];
-    snprintf(name, sizeof name, "step, setting A, mean of steps 1 to %" PRIu64, steps);
-    usual_row(name, stepped, steps);
-    snprintf(name, sizeof name, "read, setting A, mean after steps 1 to %" PRIu64, steps);
-    usual_row(name, read, steps);
+    even_rows("step", "of", &stepped);
+    even_rows("read", "after", &read);
     row("open, setting A, blank image", opened, 1);
     usual_row("open, setting A, opened before", again, 1);
     lay_blank();
@@ -148,14 +184,14 @@ static void setting_a_rows(uint64_t steps)
 static void growth_row(size_t n, size_t e)
 {
     places at = {n, 1, 25, e};
-    figures stepped = {0};
+    calls stepped = {0};
     lay_blank();
     open_both(at);
     for (int done = 0; done < 16; done++)
         add(&stepped, step_both(at));
     char name[60];
     snprintf(name, sizeof name, "step, N %zu, area of %zu cells", n, e - 25 + 1);
-    row(name, stepped, 16);
+    row(name, stepped.sum, stepped.number);
 }
 
 int main(int count_of_words, char **words)

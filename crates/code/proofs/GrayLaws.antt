@@ -2,19 +2,20 @@
 --   gray-small      the Gray word of a count of k bits has k bits
 --   gray-half       the Gray word of a half is half the Gray word
 --   count-small     the count of a Gray word has 32 bits
---   count-step      the way back, one bit on
---   count-turn      a turn of the way back
---   count-done      where nothing is left, the count stands
+--   halves-one      one half is the word itself
+--   halves-double   twice as many halves, by one exclusive-or
 --   count-of-gray   the count of a count's Gray word is that count
 --   gray-of-count   the Gray word of a Gray word's count is that Gray word
---   gray-zero           the Gray word of 0
+--   gray-zero       the Gray word of 0
 use mathlib.Core.Path.{_≡_, refl, sym, ap, _∙_}
-use Prim.Native.Nat.{ℕ, zero, suc, _/_, _^_, _<_}
-use native.Mathlib.Nat.{lt-of-le-of-lt, div-le-self, pow-suc}
+use Prim.Native.Nat.{ℕ, zero, suc, _+_, _/_, _^_, _<_}
+use native.Mathlib.Nat.{lt-of-le-of-lt, div-le-self, div-one, pow-suc, zero-add, suc-add}
+use native.Mathlib.Numerals.{one-add}
 use native.Mathlib.Omega.{arith}
 use lib.Arith.{lt-one}
-use lib.Bits.{bitXor, xor-lt, xor-shr, xor-zero-r}
+use lib.Bits.{bitXor, xor-lt, xor-shr, xor-zero-l, xor-zero-r}
 use lib.Dec.{lit<}
+use lib.Pow.{shr-shr}
 use Rattle.code.specs.Gray.{bits, grayOf, halvesOf, countOf}
 use Rattle.code.proofs.XorLaws.{xor-assoc, xor-back}
 
@@ -41,18 +42,36 @@ halves-more zero g h = ap (λ (x : ℕ). halvesOf 1 x) (lt-one h)
 halves-more (suc k) g h = ap (bitXor g) (halves-more k (g / 2) (half-less k g h))
 
 -- the way back, one bit on
-pub count-step : (g : ℕ) → g < 2 ^ 32 → countOf g ≡ bitXor g (countOf (g / 2))
+count-step : (g : ℕ) → g < 2 ^ 32 → countOf g ≡ bitXor g (countOf (g / 2))
 unfolding bits halvesOf countOf
 count-step g h = ap (bitXor g) (sym (halves-more 31 (g / 2) (half-less 31 g h)))
 
--- a turn of the way back: what is left goes over to the count, and its half is left
-pub count-turn : (c g : ℕ) → g < 2 ^ 32 → bitXor (bitXor c g) (countOf (g / 2)) ≡ bitXor c (countOf g)
-count-turn c g h = xor-assoc c g (countOf (g / 2)) ∙ ap (bitXor c) (sym (count-step g h))
+-- the way back of a half is half the way back
+halves-half : (k g : ℕ) → halvesOf k g / 2 ≡ halvesOf k (g / 2)
+unfolding halvesOf
+halves-half zero g = refl
+halves-half (suc k) g = xor-shr g (halvesOf k (g / 2)) 1 ∙ ap (bitXor (g / 2)) (halves-half k (g / 2))
 
--- where nothing is left, the count stands
-pub count-done : (c : ℕ) → bitXor c (countOf 0) ≡ c
-unfolding bits halvesOf countOf
-count-done c = xor-zero-r c
+-- the way back over j bits, and over k bits more behind them
+halves-on : (j k g : ℕ) → bitXor (halvesOf j g) (halvesOf k g / 2 ^ j) ≡ halvesOf (j + k) g
+unfolding halvesOf
+halves-on zero k g = xor-zero-l (halvesOf k g / 1) ∙ div-one (halvesOf k g) ∙ ap (λ (x : ℕ). halvesOf x g) (sym (zero-add k))
+halves-on (suc j) k g =
+    ap (bitXor (halvesOf (suc j) g))
+    (ap (λ (x : ℕ). halvesOf k g / 2 ^ x) (sym (one-add j)) ∙ sym (shr-shr (halvesOf k g) 1 j)
+    ∙ ap (λ (x : ℕ). x / 2 ^ j) (halves-half k g))
+    ∙ xor-assoc g (halvesOf j (g / 2)) (halvesOf k (g / 2) / 2 ^ j)
+    ∙ ap (bitXor g) (halves-on j k (g / 2))
+    ∙ ap (λ (x : ℕ). halvesOf x g) (sym (suc-add j k))
+
+-- one half is the word itself
+pub halves-one : (g : ℕ) → g ≡ halvesOf 1 g
+unfolding halvesOf
+halves-one g = sym (xor-zero-r g)
+
+-- twice as many halves, by one exclusive-or
+pub halves-double : {w : ℕ} (k g : ℕ) → w ≡ halvesOf k g → bitXor w (w / 2 ^ k) ≡ halvesOf (k + k) g
+halves-double k g e = ap (λ (x : ℕ). bitXor x (x / 2 ^ k)) e ∙ halves-on k k g
 
 -- ---- there and back
 
@@ -67,12 +86,6 @@ halves-small (suc k) g h =
 pub count-small : (g : ℕ) → g < 2 ^ 32 → countOf g < 2 ^ 32
 unfolding bits countOf
 count-small = halves-small bits
-
--- the way back of a half is half the way back
-halves-half : (k g : ℕ) → halvesOf k g / 2 ≡ halvesOf k (g / 2)
-unfolding halvesOf
-halves-half zero g = refl
-halves-half (suc k) g = xor-shr g (halvesOf k (g / 2)) 1 ∙ ap (bitXor (g / 2)) (halves-half k (g / 2))
 
 -- over k bits the way back of a Gray word is the count
 halves-of-gray : (k c : ℕ) → c < 2 ^ k → halvesOf k (grayOf c) ≡ c
