@@ -1,7 +1,7 @@
 /* Prints the table of instructions per call, the archive beside fast.c, on the same chips in one run. Use: bench STEPS, where
    STEPS is 4096 for the figures of record. Answers, cells and lives are compared on the way. Ends with 1 where the archive takes
-   more than fast.c in one of the usual calls: a step, a read, an open of what was opened before. It also does where the archive
-   takes more in one step or read of a clean chip than in another. */
+   more than fast.c in one of the usual calls: a step, a read, an open of what was opened before. It also does where the archive's
+   work on a clean chip is uneven. */
 
 #include <inttypes.h>
 #include <stdio.h>
@@ -116,23 +116,53 @@ static void usual_row(const char *name, figures sum, uint64_t number)
     status = 1;
 }
 
-static const char *named(const char *door, const char *which, const char *when, uint64_t steps)
+/* A step reads the pointers that it needs at one of two places, since those of Low nibbles have two bytes and those of High ones
+   have one, and from the first place a jump leads on. All else is the same in every step. */
+enum { steps_apart = 1, reads_apart = 0 };
+
+/* The mean, the least and the greatest of calls of one door on a clean chip, where these may be so far apart. */
+static void even_rows(const char *door, const char *which, const calls *all, uint64_t apart)
 {
-    static char name[60];
-    snprintf(name, sizeof name, "%s, setting A, %s %s steps 1 to %" PRIu64, door, which, when, steps);
-    return name;
+    char name[60];
+    snprintf(name, sizeof name, "%s, setting A, mean %s", door, which);
+    usual_row(name, all->sum, all->number);
+    snprintf(name, sizeof name, "%s, setting A, least %s", door, which);
+    row(name, all->least, 1);
+    snprintf(name, sizeof name, "%s, setting A, greatest %s", door, which);
+    row(name, all->greatest, 1);
+    if (all->greatest.archive - all->least.archive <= apart)
+        return;
+    printf("bench: the archive's least and greatest of these calls may be %" PRIu64 " apart at most\n", apart);
+    status = 1;
 }
 
-/* The mean, the least and the greatest of one door's calls on a clean chip. */
-static void even_rows(const char *door, const char *when, const calls *all)
+/* A chip that holds 2 to the power k, less 1: in its Gray word bit k - 1 alone is 1. */
+static void lay_before_power(unsigned k)
 {
-    usual_row(named(door, "mean", when, all->number), all->sum, all->number);
-    row(named(door, "least", when, all->number), all->least, 1);
-    row(named(door, "greatest", when, all->number), all->greatest, 1);
-    if (all->least.archive == all->greatest.archive)
+    static const uint8_t codes_of_one_bit[] = {0x07, 0x19, 0x2A, 0x34};
+    lay_blank();
+    open_both(setting_a);
+    if (k > 0) {
+        unsigned nibble = (k - 1) / 4;
+        size_t first = nibble < 3 ? 128 - nibble : 22 + nibble, second = nibble < 3 ? first - 3 : first + 5;
+        theirs.image[first] = theirs.image[second] = codes_of_one_bit[(k - 1) % 4];
+        ours = theirs;
+    }
+    if (lyre_read(theirs.image, 129, 1, 25, 128).count == (UINT32_C(1) << k) - 1)
         return;
-    printf("bench: the archive takes more in one of these calls than in another\n");
-    status = 1;
+    printf("the chip before the step to 2 to the power %u is not laid\n", k);
+    exit(1);
+}
+
+/* The steps that change each bit of the Gray word for the first time, over all 32 bits. */
+static void power_rows(void)
+{
+    calls stepped = {0};
+    for (unsigned k = 0; k < 32; k++) {
+        lay_before_power(k);
+        add(&stepped, step_both(setting_a));
+    }
+    even_rows("step", "of steps to powers of 2", &stepped, steps_apart);
 }
 
 /* Cells 65 to 127 are worn, so that Low cells are 128 and those from 64 down: 128 and 64 are the same modulo 64. */
@@ -168,8 +198,12 @@ static void setting_a_rows(uint64_t steps)
         add(&stepped, step_both(setting_a));
         add(&read, read_both(setting_a));
     }
-    even_rows("step", "of", &stepped);
-    even_rows("read", "after", &read);
+    char which[40];
+    snprintf(which, sizeof which, "of steps 1 to %" PRIu64, steps);
+    even_rows("step", which, &stepped, steps_apart);
+    snprintf(which, sizeof which, "after steps 1 to %" PRIu64, steps);
+    even_rows("read", which, &read, reads_apart);
+    power_rows();
     row("open, setting A, blank image", opened, 1);
     usual_row("open, setting A, opened before", again, 1);
     lay_blank();

@@ -52,17 +52,12 @@ unfolding halvesOf
 halves-half zero g = refl
 halves-half (suc k) g = xor-shr g (halvesOf k (g / 2)) 1 ∙ ap (bitXor (g / 2)) (halves-half k (g / 2))
 
--- the way back over j bits, and over k bits more behind them
+-- the way back over j bits, and over k bits behind them
 halves-on : (j k g : ℕ) → bitXor (halvesOf j g) (halvesOf k g / 2 ^ j) ≡ halvesOf (j + k) g
 unfolding halvesOf
-halves-on zero k g = xor-zero-l (halvesOf k g / 1) ∙ div-one (halvesOf k g) ∙ ap (λ (x : ℕ). halvesOf x g) (sym (zero-add k))
+halves-on zero k g = rw (xor-zero-l, div-one, zero-add)
 halves-on (suc j) k g =
-    ap (bitXor (halvesOf (suc j) g))
-    (ap (λ (x : ℕ). halvesOf k g / 2 ^ x) (sym (one-add j)) ∙ sym (shr-shr (halvesOf k g) 1 j)
-    ∙ ap (λ (x : ℕ). x / 2 ^ j) (halves-half k g))
-    ∙ xor-assoc g (halvesOf j (g / 2)) (halvesOf k (g / 2) / 2 ^ j)
-    ∙ ap (bitXor g) (halves-on j k (g / 2))
-    ∙ ap (λ (x : ℕ). halvesOf x g) (sym (suc-add j k))
+    rw (suc-add, sym (halves-on j k (g / 2)), sym (halves-half k g), shr-shr (halvesOf k g) 1 j, one-add, xor-assoc)
 
 -- one half is the word itself
 pub halves-one : (g : ℕ) → g ≡ halvesOf 1 g
