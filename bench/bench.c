@@ -116,11 +116,11 @@ static void usual_row(const char *name, figures sum, uint64_t number)
     status = 1;
 }
 
-/* A step reads the pointers that it needs at one of two places, since those of Low nibbles have two bytes and those of High ones
-   have one, and from the first place a jump leads on. All else is the same in every step. */
+/* A step that changes a Low nibble takes one instruction more than one that changes a High one: pointers of two bytes are read at
+   a place of their own, and from there a jump leads on. */
 enum { steps_apart = 1, reads_apart = 0 };
 
-/* The mean, the least and the greatest of calls of one door on a clean chip, where these may be so far apart. */
+/* The mean, the least and the greatest of calls of one door on a clean chip; the last two may be so far apart. */
 static void even_rows(const char *door, const char *which, const calls *all, uint64_t apart)
 {
     char name[60];
@@ -148,7 +148,7 @@ static void lay_before_power(unsigned k)
         theirs.image[first] = theirs.image[second] = codes_of_one_bit[(k - 1) % 4];
         ours = theirs;
     }
-    if (lyre_read(theirs.image, 129, 1, 25, 128).count == (UINT32_C(1) << k) - 1)
+    if (lyre_read(theirs.image, setting_a.n, setting_a.m, setting_a.s, setting_a.e).count == (UINT32_C(1) << k) - 1)
         return;
     printf("the chip before the step to 2 to the power %u is not laid\n", k);
     exit(1);
