@@ -6,7 +6,7 @@ set -eu
 cd "$(dirname "$0")/.."
 kind=quick
 [ "${1:-}" != whole ] || { kind=whole; shift; }
-[ $# -gt 0 ] || set -- $(ls -d crates/*/wrong | cut -d / -f 2)
+[ $# -gt 0 ] || set -- $(sed 's/:.*//' crates.txt | while read -r crate; do [ ! -d "crates/$crate/wrong" ] || echo "$crate"; done)
 for crate in "$@"; do
     [ -d "crates/$crate/wrong" ] || { echo "wrong: there is no folder crates/$crate/wrong"; exit 1; }
 done
@@ -14,11 +14,22 @@ work=$(mktemp -d)
 trap 'rm -rf "$work"' EXIT
 tried=0
 
-# What stands is proved from nothing, in a folder of its own.
+# What stands is proved in a folder of its own.
+root=$PWD
 stands=$work/stands
-mkdir "$stands"
+mkdir -p "$stands/target/rlib" "$stands/target/stamp"
 cp -R crates.txt crates "$stands"
 cd "$stands"
+
+# take_proved: what $crate depends on is taken from where rt has proved it by now, beside this or before. rt goes by the stamp, which
+# comes last, and proves what is not there or has changed.
+take_proved() {
+    for needed in $(sed -n "s/^$crate://p" crates.txt); do
+        [ -f "$root/target/stamp/$needed" ] && [ ! -f "target/stamp/$needed" ] || continue
+        cp -R "$root/target/rlib/$needed.rlib" target/rlib
+        cp "$root/target/stamp/$needed" target/stamp
+    done
+}
 
 # apply EDIT FOLDER: a 'file:' line holds for the 'old:' and 'new:' pairs after it, and an old text stands in the file once.
 apply() {
@@ -73,9 +84,10 @@ try() {
 }
 
 # try_all: the edits of $crate, two at a time. Files are linked and not copied, since rt and apply put a new file in place of one that
-# they change; at the end it is seen that they did. The crate is proved as it stands before, with all that it depends on, so that a
-# refusal is the edit's.
+# they change; at the end it is seen that they did. The crate is proved as it stands before, from nothing, so that a refusal is the
+# edit's.
 try_all() {
+    take_proved
     rt dev "$crate" >"$work/said" 2>&1 || { cat "$work/said"; echo "wrong: $crate is not proved as it stands"; exit 1; }
     set -- "crates/$crate/wrong"/*.edit
     tried=$((tried + $#))
