@@ -52,7 +52,7 @@ unfolding halvesOf
 halves-half zero g = refl
 halves-half (suc k) g = xor-shr g (halvesOf k (g / 2)) 1 ∙ ap (bitXor (g / 2)) (halves-half k (g / 2))
 
--- the way back over j bits, and over k bits behind them
+-- j halves and k more: those k are the first k, shifted right by j bits
 halves-on : (j k g : ℕ) → bitXor (halvesOf j g) (halvesOf k g / 2 ^ j) ≡ halvesOf (j + k) g
 unfolding halvesOf
 halves-on zero k g = rw (xor-zero-l, div-one, zero-add)
