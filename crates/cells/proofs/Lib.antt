@@ -1,8 +1,11 @@
 pub mod Views
 pub mod Writes
 pub mod Logs
+pub mod Cuts
 pub mod Puts
 pub mod Addresses
 pub mod Walks
 pub mod Rows
 pub mod AskedOnce
+pub mod CutLogs
+pub mod TornLogs

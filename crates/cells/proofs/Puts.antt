@@ -9,11 +9,14 @@ use native.Mathlib.Omega.{arith}
 use borrow.Author.Tests.{eq-eqb, ne-eqb, eqb-true}
 use lib.Dec.{eqb}
 use lib.ListN.{length}
+use Rattle.cells.specs.declared.row.Found.the-variants.{At, Nowhere}
 use Rattle.cells.specs.Chip.{Chip, cellAt, lifeAt, writeAt, Paired, Kept}
 use Rattle.cells.specs.Run.{Run, Seen, write, run, still, view}
 use Rattle.cells.specs.Log.{Within}
 use Rattle.cells.specs.Put.{putAt, readBack}
+use Rattle.cells.specs.Cut.{tear, Says}
 use Rattle.cells.proofs.Writes.{write-laws, alive-inside}
+use Rattle.cells.proofs.Cuts.{says-enough}
 use Rattle.cells.proofs.Logs.{within-still, within-write, within-kept}
 
 -- ## What is claimed
@@ -127,3 +130,18 @@ module _ (a b : ℕ) (s : Chip) where
   -- a put says of at most one write
   pub put-few : {v : Seen Bool} → v ≡ view (putAt a b s) → v .writes ≤ 1
   put-few e = rw e (put-cost a b s)
+
+-- for code that puts on mains that can be lost
+module _ {n x : ℕ} (a b : ℕ) {s : Chip} {v : Seen Bool} where
+  -- no power is left for the write that is asked
+  pub put-torn : n ≡ 0 → (cellAt s a ≡ b → ⊥) → v .after ≡ writeAt a x s → Says (At a) v n x (putAt a b s) s
+  unfolding tear
+  put-torn z d e = record { so = rw (z, put-asks a b s d, e) }
+
+  -- there is power, or no write is asked
+  pub put-whole : (n ≡ 0 → cellAt s a ≡ b) → v ≡ view (putAt a b s) → Says Nowhere v n x (putAt a b s) s
+  put-whole h = says-enough (go (ℕ-discrete n 0))
+    where
+      go : Dec (n ≡ 0) → length (putAt a b s .log) ≤ n
+      go (yes z) = rw (put-there a b s (h z)) (omega arith)
+      go (no d) = let few = put-cost a b s in omega arith

@@ -6,17 +6,19 @@ use mathlib.Core.List.{List, [], _∷_, _++_, append-assoc}
 use native.Mathlib.Nat.{zero-add, add-zero, add-assoc}
 use native.Mathlib.Numerals.{add-one, one-add}
 use native.Mathlib.Omega.{arith}
-use lib.ListN.{length, getD, take, drop, length-append, length-take, length-drop, take-append-drop}
-use lib.Seq.{take-all, drop-cons, drop-length}
+use lib.ListN.{length, getD, drop, length-append}
+use lib.Seq.{drop-cons, drop-length}
 use Rattle.cells.specs.declared.row.Way.the-variants.{Up}
 use Rattle.cells.specs.declared.row.Found.{Found}
 use Rattle.cells.specs.declared.row.Found.the-variants.{At, Nowhere}
 use Rattle.cells.specs.Chip.{Chip, cellAt, lifeAt, Paired, Kept}
-use Rattle.cells.specs.Run.{Run, Seen, seen, still, view, plus, _then_, _giving_}
+use Rattle.cells.specs.Run.{Run, Seen, seen, still, _then_, _giving_}
 use Rattle.cells.specs.Log.{Within}
 use Rattle.cells.specs.Put.{putAt}
 use Rattle.cells.specs.Row.{next, putRow, InRow}
-use Rattle.cells.proofs.Views.{view-then, said-answer}
+use Rattle.cells.specs.Cut.{Says}
+use Rattle.cells.proofs.Views.{said-answer}
+use Rattle.cells.proofs.Cuts.{Starts, starts-same, starts-append, Left, said-lost, said-view, said-ends, said-left}
 use Rattle.cells.proofs.Writes.{kept-paired}
 use Rattle.cells.proofs.Logs.{within-still, within-wider, within-cond, within-giving, within-then, within-kept}
 use Rattle.cells.proofs.Addresses.{in-first, in-longer}
@@ -209,40 +211,7 @@ row-laws bs a s p = record {
   tried = row-tried bs a s;
 }
 
--- ## For code that puts a row: over what is said of its put, `v`
-
-module _ (b : ℕ) (bs : List ℕ) (a : ℕ) (s : Chip) {v : Seen Bool} (e : v ≡ view (putAt a b s)) where
-  -- the first put held
-  pub row-went-on : v .answer ≡ true → view (putRow (b ∷ bs) a s) ≡ plus (v .writes) 0 (view (putRow bs (a + 1) (v .after)))
-  row-went-on h = rw (row-on b bs a s (said-answer (putAt a b s) e h), e) (view-then (putAt a b s) _ ∙ rw (put-tried a b s))
-
-  -- the first put failed
-  pub row-stopped : v .answer ≡ false → view (putRow (b ∷ bs) a s) ≡ seen (At a) (v .writes) 0 (v .after)
-  row-stopped h = rw (row-stop b bs a s (said-answer (putAt a b s) e h), put-tried a b s, e)
-
--- a row in two pieces, over what is said of the first i bytes, `v`
-module _ (bytes : List ℕ) (i a : ℕ) (s : Chip) {v : Seen Found} (e : v ≡ view (putRow (take i bytes) a s)) where
-  -- a byte of the first failed
-  pub row-first-failed : (x : ℕ) → v .answer ≡ At x → view (putRow bytes a s) ≡ v
-  row-first-failed x h =
-      let answer = said-answer (putRow (take i bytes) a s) e h in
-      let same : putRow bytes a s ≡ putRow (take i bytes) a s = rw (take-append-drop i bytes) at (row-alone (drop i bytes) x (take i bytes) a s answer) in
-      ap view same ∙ sym e
-
-  -- the first held
-  pub row-first-held :
-      i ≤ length bytes → v .answer ≡ Nowhere
-      → view (putRow bytes a s) ≡ plus (v .writes) 0 (view (putRow (take (length bytes - i) (drop i bytes)) (a + i) (v .after)))
-  row-first-held l h =
-      let answer = said-answer (putRow (take i bytes) a s) e h in
-      let size : length (take i bytes) ≡ i = omega (arith, length-take i bytes) in
-      let rest : take (length bytes - i) (drop i bytes) ≡ drop i bytes = take-all (length bytes - i) (drop i bytes) (omega (arith, length-drop i bytes)) in
-      let both = rw (take-append-drop i bytes, size) at (row-behind (drop i bytes) (take i bytes) a s answer) in
-      rw (rest, both, e) (view-then (putRow (take i bytes) a s) _ ∙ rw (row-tried (take i bytes) a s))
-
--- a row says of at most one write a byte
-pub row-few : (bs : List ℕ) (a : ℕ) (s : Chip) {v : Seen Found} → v ≡ view (putRow bs a s) → v .writes ≤ length bs
-row-few bs a s e = rw e (row-cost bs a s)
+-- ## For code that puts a row: over what is said of its put, `v`, and of where the power was lost, `l`
 
 -- what is left of a row when i of its bytes have been put
 abbrev pub rowLeft : List ℕ → ℕ → ℕ → Chip → Run Found
@@ -250,19 +219,42 @@ rowLeft bytes a i s = putRow (drop i bytes) (a + i) s
 
 module _ (bytes : List ℕ) (a : ℕ) where
   -- at first, all of it
-  pub row-left-all : (s : Chip) → view (putRow bytes a s) ≡ plus 0 0 (view (rowLeft bytes a 0 s))
-  row-left-all s = simp (add-zero, zero-add)
+  pub row-left-all : (s : Chip) → rowLeft bytes a 0 s ≡ putRow bytes a s
+  row-left-all s = rw add-zero
 
   -- at the end, nothing
-  pub row-left-none : (w i : ℕ) (s : Chip) → i ≡ length bytes → plus w 0 (view (rowLeft bytes a i s)) ≡ seen Nowhere w 0 s
+  pub row-left-none : (i : ℕ) (s : Chip) → i ≡ length bytes → rowLeft bytes a i s ≡ still Nowhere s
   unfolding putRow
-  row-left-none w i s e = rw (e, drop-length bytes, add-zero w)
+  row-left-none i s e = rw (e, drop-length bytes)
 
-  module _ (i : ℕ) (s : Chip) (inside : i < length bytes) {v : Seen Bool} (e : v ≡ view (putAt (a + i) (getD bytes i 0) s)) where
+  module _ (i : ℕ) {n x : ℕ} {s : Chip} (inside : i < length bytes) {l : Found} {v : Seen Bool} (e : Says l v n x (putAt (a + i) (getD bytes i 0) s) s) where
+    -- there is a byte left
+    more : rowLeft bytes a i s ≡ putRow (getD bytes i 0 ∷ drop (i + 1) bytes) (a + i) s
+    more = rw (drop-cons bytes i 0, add-one)
+
+    starts : Starts (putAt (a + i) (getD bytes i 0) s .log) (rowLeft bytes a i s .log)
+    starts =
+        rw more
+        (row-either (getD bytes i 0) (drop (i + 1) bytes) (a + i) s (λ r. Starts (putAt (a + i) (getD bytes i 0) s .log) (r .log))
+        (λ h. starts-append (putAt (a + i) (getD bytes i 0) s .log) _)
+        (λ h. starts-same (putAt (a + i) (getD bytes i 0) s .log)))
+
+    -- the power was lost
+    pub row-left-lost : {y : ℕ} → l ≡ At y → Says l (seen Nowhere 0 0 (v .after)) n x (rowLeft bytes a i s) s
+    row-left-lost here = said-lost e here here refl starts
+
+    -- a put tries no spare
+    untried : l ≡ Nowhere → v .tried ≡ 0
+    untried on = ap (λ (w : Seen Bool). w .tried) (said-view e on) ∙ put-tried (a + i) (getD bytes i 0) s
+
     -- the put of the byte numbered i held
-    pub row-left-held : v .answer ≡ true → view (rowLeft bytes a i s) ≡ plus (v .writes) 0 (view (rowLeft bytes a (i + 1) (v .after)))
-    row-left-held h = rw (drop-cons bytes i 0, ← add-assoc a i 1, add-one i) (row-went-on _ _ _ s e h)
+    pub row-left-held : l ≡ Nowhere → v .answer ≡ true → Left (v .writes) 0 n x (rowLeft bytes a i s) s (rowLeft bytes a (i + 1) (v .after)) (v .after)
+    row-left-held on h =
+        rw (more, row-on (getD bytes i 0) (drop (i + 1) bytes) (a + i) s (said-answer (putAt (a + i) (getD bytes i 0) s) (said-view e on) h), ← add-assoc a i 1)
+        (rw (untried on) at (said-left e (putRow (drop (i + 1) bytes) (a + i + 1)) on (put-within (a + i) (getD bytes i 0) s .logged)))
 
     -- the put of the byte numbered i failed
-    pub row-left-failed : v .answer ≡ false → view (rowLeft bytes a i s) ≡ seen (At (a + i)) (v .writes) 0 (v .after)
-    row-left-failed h = rw (drop-cons bytes i 0) (row-stopped _ _ _ s e h)
+    pub row-left-failed : l ≡ Nowhere → v .answer ≡ false → Says Nowhere (seen (At (a + i)) (v .writes) 0 (v .after)) n x (rowLeft bytes a i s) s
+    row-left-failed on h =
+        rw (more, row-stop (getD bytes i 0) (drop (i + 1) bytes) (a + i) s (said-answer (putAt (a + i) (getD bytes i 0) s) (said-view e on) h))
+        (rw (untried on) at (said-ends e {x = At (a + i)} on))

@@ -5,7 +5,7 @@ use Prim.Native.Nat.{ℕ, zero, suc, _+_, _-_, _≤_, _<_}
 use mathlib.Core.Path.{_≡_, refl, ap, _∙_}
 use mathlib.Core.Bool.{Bool, true, false}
 use mathlib.Core.List.{[], _∷_, _++_}
-use native.Mathlib.Nat.{zero-add, add-zero, sub-zero, sub-self}
+use native.Mathlib.Nat.{sub-zero, sub-self}
 use native.Mathlib.Numerals.{one-add}
 use native.Mathlib.Omega.{arith}
 use lib.ListN.{length, length-append}
@@ -14,11 +14,13 @@ use Rattle.cells.specs.declared.row.Way.the-variants.{Up, Down}
 use Rattle.cells.specs.declared.row.Found.{Found}
 use Rattle.cells.specs.declared.row.Found.the-variants.{At, Nowhere}
 use Rattle.cells.specs.Chip.{Chip, lifeAt, Paired, Kept}
-use Rattle.cells.specs.Run.{still, write, Run, run, Seen, seen, view, plus, _then_, _giving_}
+use Rattle.cells.specs.Run.{still, write, Run, run, Seen, seen, view, _then_, _giving_}
 use Rattle.cells.specs.Log.{askedOf, Within}
 use Rattle.cells.specs.Put.{putAt}
 use Rattle.cells.specs.Row.{next, nth, InRow, tryAt, walk, asks}
-use Rattle.cells.proofs.Views.{view-then, said-answer}
+use Rattle.cells.specs.Cut.{Says}
+use Rattle.cells.proofs.Views.{said-answer}
+use Rattle.cells.proofs.Cuts.{Starts, starts-same, starts-append, Left, says-enough, said-lost, said-view, said-enough, said-ends, said-left}
 use Rattle.cells.proofs.Logs.{asked-here, asked-append, within-still, within-wider, within-cond, within-giving, within-then, within-kept}
 use Rattle.cells.proofs.Addresses.{nth-zero, nth-next, nth-suc, in-first, in-longer}
 use Rattle.cells.proofs.Puts.{Refuses, put-within, put-cost, put-failed, put-laws}
@@ -199,20 +201,7 @@ walk-laws n way a b s p = record {
   tried = walk-cost n way a b s .1;
 }
 
--- ## For code that walks: over what is said of its put, `v`
-
-module _ (n : ℕ) (way : Way) (a b : ℕ) (s : Chip) {v : Seen Bool} (e : v ≡ view (putAt a b s)) where
-  -- the first put held
-  pub walk-held : v .answer ≡ true → view (walk (suc n) way a b s) ≡ seen (At a) (v .writes) 1 (v .after)
-  unfolding tryAt
-  walk-held h = rw (walk-hit n way a b s (said-answer (putAt a b s) e h), e)
-
-  -- the first put failed
-  pub walk-passed : v .answer ≡ false → view (walk (suc n) way a b s) ≡ plus 1 1 (view (walk n way (next way a) b (v .after)))
-  unfolding tryAt
-  walk-passed h =
-      let f = said-answer (putAt a b s) e h in
-      rw (walk-miss n way a b s f, e) (view-then (tryAt a b s) _ ∙ rw (put-failed a b s f))
+-- ## For code that walks: over what is said of its put, `v`, and of where the power was lost, `l`
 
 -- what is left of a walk of so many cells when j of them have been passed over
 abbrev pub walkLeft : ℕ → Way → ℕ → ℕ → ℕ → Chip → Run Found
@@ -220,26 +209,47 @@ walkLeft cells way a b j s = walk (cells - j) way (nth way a j) b s
 
 module _ (cells : ℕ) (way : Way) (a b : ℕ) where
   -- at first, all of it
-  pub walk-left-all : (s : Chip) → view (walk cells way a b s) ≡ plus 0 0 (view (walkLeft cells way a b 0 s))
-  walk-left-all s = simp (nth-zero, sub-zero, zero-add)
+  pub walk-left-all : (s : Chip) → walkLeft cells way a b 0 s ≡ walk cells way a b s
+  walk-left-all s = rw (nth-zero, sub-zero)
 
-  -- at the end, nothing: each cell was asked one write
-  pub walk-left-none : (j : ℕ) (s : Chip) → j ≡ cells → plus j j (view (walkLeft cells way a b j s)) ≡ seen Nowhere cells cells s
+  -- at the end, nothing
+  pub walk-left-none : (j : ℕ) (s : Chip) → j ≡ cells → walkLeft cells way a b j s ≡ still Nowhere s
   unfolding walk
-  walk-left-none j s e = rw (e, sub-self, add-zero)
+  walk-left-none j s e = rw (e, sub-self)
 
-  module _ (j at : ℕ) (s : Chip) (inside : j < cells) (here : at ≡ nth way a j) {v : Seen Bool} (e : v ≡ view (putAt at b s)) where
+  module _ (j at : ℕ) {n x : ℕ} {s : Chip} (inside : j < cells) (here : at ≡ nth way a j) {l : Found} {v : Seen Bool} (e : Says l v n x (putAt at b s) s) where
     -- there is a cell left
-    more : cells - j ≡ suc (cells - (j + 1))
-    more = omega arith
+    more : walkLeft cells way a b j s ≡ walk (suc (cells - (j + 1))) way at b s
+    more = let count : cells - j ≡ suc (cells - (j + 1)) = omega arith in rw (count, ← here)
+
+    starts : Starts (putAt at b s .log) (walkLeft cells way a b j s .log)
+    unfolding tryAt
+    starts = rw more (walk-either (cells - (j + 1)) way at b s (λ r. Starts (putAt at b s .log) (r .log)) (λ h. starts-same (putAt at b s .log))
+        (λ h. starts-append (putAt at b s .log) _))
+
+    -- the power was lost
+    pub walk-left-lost : {y : ℕ} → l ≡ At y → Says l (seen Nowhere 0 0 (v .after)) n x (walkLeft cells way a b j s) s
+    walk-left-lost here = said-lost e here here refl starts
+
+    -- what is said of the put, as a cell tried
+    tried : l ≡ Nowhere → Says Nowhere (seen (v .answer) (v .writes) 1 (v .after)) n x (tryAt at b s) s
+    unfolding tryAt
+    tried on = let said = said-view e on in says-enough (rw said at (said-enough e on)) (rw said)
 
     -- the put at the j-th cell held
-    pub walk-left-held : v .answer ≡ true → view (walkLeft cells way a b j s) ≡ seen (At at) (v .writes) 1 (v .after)
-    walk-left-held h = rw (more, ← here) (walk-held _ way at b s e h)
+    pub walk-left-held : l ≡ Nowhere → v .answer ≡ true → Says Nowhere (seen (At at) (v .writes) 1 (v .after)) n x (walkLeft cells way a b j s) s
+    walk-left-held on h =
+        rw (more, walk-hit (cells - (j + 1)) way at b s (said-answer (putAt at b s) (said-view e on) h)) (said-ends (tried on) refl)
 
     -- the put at the j-th cell failed
-    pub walk-left-passed : v .answer ≡ false → view (walkLeft cells way a b j s) ≡ plus 1 1 (view (walkLeft cells way a b (j + 1) (v .after)))
-    walk-left-passed h = rw (more, ← nth-next, ← here) (walk-passed _ way at b s e h)
+    pub walk-left-passed : l ≡ Nowhere → v .answer ≡ false → Left 1 1 n x (walkLeft cells way a b j s) s (walkLeft cells way a b (j + 1) (v .after)) (v .after)
+    unfolding tryAt
+    walk-left-passed on h =
+        let said = said-view e on in
+        let failed = said-answer (putAt at b s) said h in
+        let one : v .writes ≡ 1 = ap (λ (w : Seen Bool). w .writes) said ∙ ap length (put-failed at b s failed) in
+        rw (more, walk-miss (cells - (j + 1)) way at b s failed, ← nth-next, ← here)
+        (rw one at (said-left (tried on) (walk (cells - (j + 1)) way (next way at) b) refl (try-within 0 way at b s .logged)))
 
 -- a walk says of at most a write and a try for each cell
 pub walk-few : (n : ℕ) (way : Way) (a b : ℕ) (s : Chip) {v : Seen Found} → v ≡ view (walk n way a b s) → (v .writes ≤ v .tried) × (v .tried ≤ n)

@@ -3,3 +3,4 @@ pub mod Run
 pub mod Log
 pub mod Put
 pub mod Row
+pub mod Cut

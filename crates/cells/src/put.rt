@@ -12,9 +12,9 @@ pub struct BytePut {
     pub writes: usize,
 }
 
-// One write, which only a put makes: a cell with life left stores the byte and loses one life, a worn cell stays as it is. The byte
+// One write, which only a put makes, or the loss of power in one: a cell with life left stores the byte and loses one life, a worn cell stays as it is. The byte
 // is stored last, so that the compiler knows what a reading back finds.
-fn write(image: &mut [u8], lives: &mut [u32], at: usize, byte: u8)
+pub(crate) fn write(image: &mut [u8], lives: &mut [u32], at: usize, byte: u8)
     requires { ⌜ (at < length (now image)) × (length (now lives) ≡ length (now image)) ⌝ }
     ensures { λ r. ⌜ chip (now (image .exit)) (now (lives .exit)) ≡ writeAt at byte (chip (now (image .entry)) (now (lives .entry))) ⌝ }
 {

@@ -1,11 +1,13 @@
 // Rows of cells: one byte tried along a row until a cell holds it, and bytes put at neighbouring cells.
-use crate::put::put;
+use crate::mains::Mains;
+use crate::mains::put_on;
 ghost use mathlib.Core.Path.{_≡_};
 ghost use Prim.Native.Nat.{_+_, _^_, _≤_};
 ghost use lib.ListN.{length};
 ghost use Rattle.cells.specs.Chip.{chip};
-ghost use Rattle.cells.specs.Run.{seen, view};
+ghost use Rattle.cells.specs.Run.{seen};
 ghost use Rattle.cells.specs.Row.{RowFits, nth, walk, putRow};
+ghost use Rattle.cells.specs.Cut.{Tells};
 
 // Which way a row goes.
 pub enum Way {
@@ -19,15 +21,17 @@ pub enum Found {
     Nowhere,
 }
 
-// What a walk came to: where the byte held, the writes asked for, and the cells tried.
+// What a walk came to: where the power was lost, if it was; else where the byte held, the writes asked for, and the cells tried.
 pub struct Walked {
+    pub lost: Found,
     pub found: Found,
     pub writes: usize,
     pub tried: usize,
 }
 
-// What putting a row came to: where a put failed, and the writes asked for.
+// What putting a row came to: where the power was lost, if it was; else where a put failed, and the writes asked for.
 pub struct RowPut {
+    pub lost: Found,
     pub failed: Found,
     pub writes: usize,
 }
@@ -51,16 +55,27 @@ pub fn walk(
     way: Way,
     from: usize,
     byte: u8,
+    mains: Mains,
 ) -> Walked
     requires { ⌜ (RowFits (length (now image)) way from cells) × (length (now lives) ≡ length (now image)) ⌝ }
-    ensures { λ r. ⌜ seen (r .found) (r .writes) (r .tried) (chip (now (image .exit)) (now (lives .exit))) ≡ view (walk cells way from byte (chip (now (image .entry)) (now (lives .entry)))) ⌝ }
+    ensures { λ r. ⌜ Tells Found.Nowhere (r .lost) (seen (r .found) (r .writes) (r .tried) (chip (now (image .exit)) (now (lives .exit)))) (mains .power) (mains .torn) (walk cells way from byte (chip (now (image .entry)) (now (lives .entry)))) (chip (now (image .entry)) (now (lives .entry))) ⌝ }
 {
     let mut j = 0;
     while j < cells {
         let at = nth(way, from, j);
-        let done = put(image, lives, at, byte);
+        let done = put_on(image, lives, at, byte, mains.behind(j));
+        let lost = done.lost;
+        if let Found::At(_) = lost {
+            return Walked {
+                lost,
+                found: Found::Nowhere,
+                writes: 0,
+                tried: 0,
+            };
+        }
         if done.held {
             return Walked {
+                lost: Found::Nowhere,
                 found: Found::At(at),
                 writes: j + done.writes,
                 tried: j + 1,
@@ -69,6 +84,7 @@ pub fn walk(
         j += 1;
     }
     Walked {
+        lost: Found::Nowhere,
         found: Found::Nowhere,
         writes: cells,
         tried: cells,
@@ -76,17 +92,26 @@ pub fn walk(
 }
 
 // Each byte is put in its cell, up to the first put that fails.
-pub fn put_row(image: &mut [u8], lives: &mut [u32], at: usize, bytes: &[u8]) -> RowPut
+pub fn put_row(image: &mut [u8], lives: &mut [u32], at: usize, bytes: &[u8], mains: Mains) -> RowPut
     requires { ⌜ (at + length (now bytes) ≤ length (now image)) × (length (now lives) ≡ length (now image)) ⌝ }
-    ensures { λ r. ⌜ seen (r .failed) (r .writes) 0 (chip (now (image .exit)) (now (lives .exit))) ≡ view (putRow (now (bytes .entry)) at (chip (now (image .entry)) (now (lives .entry)))) ⌝ }
+    ensures { λ r. ⌜ Tells Found.Nowhere (r .lost) (seen (r .failed) (r .writes) 0 (chip (now (image .exit)) (now (lives .exit)))) (mains .power) (mains .torn) (putRow (now (bytes .entry)) at (chip (now (image .entry)) (now (lives .entry)))) (chip (now (image .entry)) (now (lives .entry))) ⌝ }
 {
     let mut writes = 0;
     let mut i = 0;
     while i < bytes.len() {
-        let done = put(image, lives, at + i, bytes[i]);
+        let done = put_on(image, lives, at + i, bytes[i], mains.behind(writes));
+        let lost = done.lost;
+        if let Found::At(_) = lost {
+            return RowPut {
+                lost,
+                failed: Found::Nowhere,
+                writes: 0,
+            };
+        }
         writes += done.writes;
         if !done.held {
             return RowPut {
+                lost: Found::Nowhere,
                 failed: Found::At(at + i),
                 writes,
             };
@@ -94,6 +119,7 @@ pub fn put_row(image: &mut [u8], lives: &mut [u32], at: usize, bytes: &[u8]) -> 
         i += 1;
     }
     RowPut {
+        lost: Found::Nowhere,
         failed: Found::Nowhere,
         writes,
     }

@@ -9,11 +9,12 @@
 --   word-more           the word of the nibbles from k - 1 on, by that of the nibbles from k on
 --   word-of-nibbles     the word of a word's nibbles is that word
 --   nibble-zero         the nibbles of 0
+--   nibble-of-word      the nibbles of a word of nibbles
 --   laid-over           a nibble laid over n others: Laid
 use mathlib.Core.Path.{_≡_, refl, sym, ap, _∙_}
 use mathlib.Core.List.{List, [], _∷_}
 use Prim.Native.Nat.{ℕ, zero, suc, _+_, _-_, _*_, _/_, _%_, _^_, _≤_, _<_}
-use native.Mathlib.Nat.{not-suc-le-zero, pow-suc, mul-suc, one-le-pow, pow-le-pow-right, lt-of-lt-of-le, mod-lt, mod-eq-of-lt, mod-one, div-one, div-eq-of-lt, div-div-eq-div-mul, zero-div, mul-assoc, mul-le-mul-right, mul-add-div-right, mul-add-mod-self-right}
+use native.Mathlib.Nat.{not-suc-le-zero, pow-suc, mul-suc, one-le-pow, pow-le-pow-right, lt-of-lt-of-le, mod-lt, mod-eq-of-lt, mod-one, div-one, div-eq-of-lt, div-div-eq-div-mul, zero-div, mul-comm, mul-assoc, mul-le-mul-right, mul-add-div-right, mul-add-mod-self-right}
 use native.Mathlib.Numerals.{sub-one}
 use native.Mathlib.Omega.{arith}
 use lib.Arith.{mod-mul, digits-div}
@@ -24,6 +25,7 @@ use lib.Pow.{pow-add, shl-exact}
 use lib.Seq.{drop-cons}
 use Rattle.code.specs.Tabulate.{tabulate}
 use Rattle.code.specs.Nibbles.{nibbleOf, wordOf}
+use Rattle.code.proofs.TabulateLaws.{at}
 
 -- a power of sixteen as a power of two
 pub sixteens : (k : ℕ) → 16 ^ k ≡ 2 ^ (4 * k)
@@ -92,6 +94,22 @@ word-of-nibbles w h = word-from w 0 8 ∙ ap (λ (x : ℕ). x % 16 ^ 8) (div-one
 pub nibble-zero : (k : ℕ) → nibbleOf 0 k ≡ 0
 unfolding nibbleOf
 nibble-zero k = rw zero-div
+
+-- what stands above the lowest nibble, from nibble k on
+from-above : (w k : ℕ) → w / 16 ^ suc k ≡ w / 16 / 16 ^ k
+from-above w k = ap (λ (x : ℕ). w / x) (pow-suc 16 k ∙ mul-comm (16 ^ k) 16) ∙ sym (div-div-eq-div-mul w 16 (16 ^ k))
+
+-- the nibbles of a word of nibbles
+word-nibble : (ns : List ℕ) (k : ℕ) → nibbleOf (wordOf ns) k ≡ getD ns k 0 % 16
+unfolding nibbleOf wordOf
+word-nibble [] k = rw zero-div
+word-nibble (n ∷ ns) zero = rw div-one (omega arith)
+word-nibble (n ∷ ns) (suc k) =
+    let rest : (n % 16 + 16 * wordOf ns) / 16 ≡ wordOf ns = omega arith in
+    ap (λ (x : ℕ). x % 16) (from-above (n % 16 + 16 * wordOf ns) k ∙ ap (λ (x : ℕ). x / 16 ^ k) rest) ∙ word-nibble ns k
+
+pub nibble-of-word : (f : ℕ → ℕ) (n k : ℕ) → k < n → nibbleOf (wordOf (tabulate f 0 n)) k ≡ f k % 16
+nibble-of-word f n k h = word-nibble (tabulate f 0 n) k ∙ ap (λ (x : ℕ). x % 16) (at f 0 n k h)
 
 -- a nibble d laid over the n nibbles of a word w gives v
 pub record Laid (w d n v : ℕ) : Type 0 where

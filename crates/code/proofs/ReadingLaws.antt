@@ -10,6 +10,7 @@
 --   mended-flips        a byte mended in bit i is the nibble's code with that bit flipped, and i is at most 7
 --   code-clean          the code of d reads clean d
 --   code-injective      two nibbles with one code are one
+--   read-small          a byte reads as a nibble below 16
 --   lost-zero           a lost reading gives the nibble 0
 --   read-or-lent        a nibble as it is read, or where it is lost another, is d if it is so either way
 --   nibble-round        the code of a word's nibble reads as that nibble
@@ -20,6 +21,7 @@ use mathlib.Core.Path.{_≡_, refl, sym, ap, _∙_}
 use mathlib.Core.Bool.{Bool, true, false, cond, true≢false}
 use mathlib.Core.List.{List, [], _∷_}
 use Prim.Native.Nat.{ℕ, _+_, _-_, _/_, _%_, _^_, _<_}
+use native.Mathlib.Decide.{decLt}
 use native.Mathlib.Omega.{arith}
 use lib.Bits.{bitXor}
 use lib.Count.{ones, onesIn, trailingZeros}
@@ -36,7 +38,7 @@ use Rattle.code.specs.Tabulate.{tabulate}
 use Rattle.code.proofs.TabulateLaws.{at, agree, alike}
 use Rattle.code.proofs.QuickLaws.{quickTwofold, quickReading, reading-quick, by-quick}
 use Rattle.code.proofs.NibbleLaws.{nibble-small}
-use borrow.Author.Tests.{lt-ltb}
+use borrow.Author.Tests.{lt-ltb, le-ltb}
 
 -- ---- all bytes
 
@@ -149,6 +151,16 @@ unfolding isLost nibbleRead
 lost-zero (Clean d) h = absurd (true≢false cc)
 lost-zero (Mended d bit) h = absurd (true≢false cc)
 lost-zero Lost h = refl
+
+-- a byte reads as a nibble below 16
+pub read-small : (b : ℕ) → b < 256 → nibbleRead (readingOf b) < 16
+unfolding nibbleRead
+read-small b h = rw (sym (entry-reading b h)) (go (entryOf b) (decLt (entryOf b) mendedEntry) (decLt (entryOf b) lostEntry))
+  where
+    go : (e : ℕ) → Dec (e < mendedEntry) → Dec (e < lostEntry) → nibbleRead (readingAt e) < 16
+    go e (yes nibble) mended = rw (lt-ltb e mendedEntry nibble) nibble
+    go e (no other) (yes mended) = rw (le-ltb e mendedEntry (omega arith), lt-ltb e lostEntry mended) (omega arith)
+    go e (no other) (no lost) = rw (le-ltb e mendedEntry (omega arith), le-ltb e lostEntry (omega arith)) (omega arith)
 
 -- a nibble as it is read, or where it is lost another, is d if it is so either way
 pub read-or-lent : (r : Reading) (other d : ℕ) → (isLost r ≡ false → nibbleRead r ≡ d) → (isLost r ≡ true → other ≡ d)
