@@ -5,25 +5,32 @@
 --   refused-code              a refused call answers another code than 0
 --   spareless-code, spareless-place  8 where it found no spare, and the slot
 --   mapless-code              9 where a map byte failed
+--   reading-code, read-lit    never 11 where storing was not what was refused
 --   open-is, step-is          the outcomes of open and step are those of their work
---   read-is, read-good        the answer of read is that of its verdict, and what a good one says
+--   trial-open-is, trial-step-is  those of their trials are that work, cut
+--   read-is, read-good, read-refused  the answer of read is that of its verdict, and what a good one and a refusal say
 use Prim.Native.Nat.{ℕ, _≤_}
 use mathlib.Core.Path.{_≡_, refl, ap}
+use mathlib.Core.Bool.{false, true≢false}
 use mathlib.Core.List.{List}
 use native.Mathlib.Omega.{arith}
 use lib.IntN.{ℤ}
 use lib.ListN.{length}
 use Rattle.cells.specs.Chip.{Chip}
 use Rattle.cells.specs.Run.{Run}
+use Rattle.cells.specs.Cut.{cut}
 use Rattle.counter.specs.declared.places.Places.{Places}
+use Rattle.counter.specs.declared.verdict.Answer.{Answer}
 use Rattle.counter.specs.declared.verdict.Refusal.{Refusal}
-use Rattle.counter.specs.declared.verdict.Refusal.the-variants.{BadLength, BadPlaces, NoMark, UnsoundMap, BadCopy, TwoCodes, LostNibble, Apart, LastCount, NoSpare, MapByte}
+use Rattle.counter.specs.declared.verdict.Refusal.the-variants.{BadLength, BadPlaces, NoMark, UnsoundMap, BadCopy, TwoCodes, LostNibble, Apart, LastCount, NoSpare, MapByte, PowerLost}
 use Rattle.counter.specs.declared.verdict.Verdict.{Verdict}
 use Rattle.counter.specs.declared.verdict.Verdict.the-variants.{Good, Refused}
 use Rattle.counter.specs.Layout.{Layout}
 use Rattle.counter.specs.Verdict.{answer, refusalOf, answerOf, outcomeOf}
 use Rattle.counter.specs.Reading.{verdictOf}
+use Rattle.counter.proofs.GoodVerdicts.{ofStoring, cells-reads}
 use Rattle.counter.specs.Doors.{openRun, stepRun, openOf, stepOf, readOf}
+use Rattle.counter.specs.Trials.{cutOutcome, trialOpenOf, trialStepOf}
 
 -- ## The numbers of the ways a call can end
 
@@ -40,6 +47,7 @@ refusal-code (Apart lag) w t = omega arith
 refusal-code LastCount w t = omega arith
 refusal-code (NoSpare k) w t = omega arith
 refusal-code (MapByte a) w t = omega arith
+refusal-code (PowerLost a) w t = omega arith
 
 pub code-good : (v : Verdict) (writes tried : ℕ) → answerOf v writes tried .code ≡ 0 → (c : ℕ) × (lag : ℤ) × (v ≡ Good c lag)
 unfolding answerOf
@@ -58,6 +66,22 @@ refusal-eight (Apart lag) w t e = absurd (omega arith)
 refusal-eight LastCount w t e = absurd (omega arith)
 refusal-eight (NoSpare k) w t e = refl
 refusal-eight (MapByte a) w t e = absurd (omega arith)
+refusal-eight (PowerLost a) w t e = absurd (omega arith)
+
+-- what reading is refused for has another number than 11
+refusal-lit : (why : Refusal) (writes tried : ℕ) → ofStoring why ≡ false → refusalOf why writes tried .code ≡ 11 → ⊥
+refusal-lit BadLength w t reads e = omega arith
+refusal-lit BadPlaces w t reads e = omega arith
+refusal-lit NoMark w t reads e = omega arith
+refusal-lit UnsoundMap w t reads e = omega arith
+refusal-lit BadCopy w t reads e = omega arith
+refusal-lit (TwoCodes n) w t reads e = omega arith
+refusal-lit (LostNibble n) w t reads e = omega arith
+refusal-lit (Apart lag) w t reads e = omega arith
+refusal-lit LastCount w t reads e = omega arith
+refusal-lit (NoSpare k) w t reads e = omega arith
+refusal-lit (MapByte a) w t reads e = omega arith
+refusal-lit (PowerLost a) w t reads e = true≢false reads
 
 pub code-eight : (v : Verdict) (writes tried : ℕ) → answerOf v writes tried .code ≡ 8 → v ≡ Refused (NoSpare (answerOf v writes tried .place))
 unfolding answerOf
@@ -86,6 +110,10 @@ module _ (r : Run Verdict) where
   unfolding answerOf
   mapless-code e = rw e
 
+  pub reading-code : (why : Refusal) → ofStoring why ≡ false → r .answer ≡ Refused why → outcomeOf r .says .code ≡ 11 → ⊥
+  unfolding answerOf
+  reading-code why reads e = rw e (refusal-lit why (length (r .log)) (r .tried) reads)
+
 -- ## The doors
 
 module _ (layout : Layout) (p : Places) where
@@ -97,11 +125,31 @@ module _ (layout : Layout) (p : Places) where
   unfolding readOf answerOf
   read-good cells e = rw e
 
+  pub read-refused : {why : Refusal} (cells : List ℕ) → verdictOf layout p cells ≡ Refused why → readOf layout p cells ≡ refusalOf why 0 0
+  unfolding readOf answerOf
+  read-refused cells e = rw e
+
+  -- read is never refused 11
+  pub read-lit : (cells : List ℕ) → readOf layout p cells .code ≡ 11 → ⊥
+  read-lit cells = go (verdictOf layout p cells) refl
+    where
+      go : (v : Verdict) → verdictOf layout p cells ≡ v → readOf layout p cells .code ≡ 11 → ⊥
+      go (Good c lag) e h = let code = ap (λ (a : Answer). a .code) (read-good cells e) in omega arith
+      go (Refused why) e h = refusal-lit why 0 0 (cells-reads layout p cells e) (rw (read-refused cells e) at h)
+
   module _ (s : Chip) where
     pub open-is : openOf layout p s ≡ outcomeOf (openRun layout p s)
     unfolding openOf
     open-is = refl
 
+    pub trial-open-is : (power torn : ℕ) → trialOpenOf layout p power torn s ≡ cutOutcome (cut power torn (openRun layout p s) s)
+    unfolding trialOpenOf
+    trial-open-is power torn = refl
+
     pub step-is : stepOf layout p s ≡ outcomeOf (stepRun layout p s)
     unfolding stepOf
     step-is = refl
+
+    pub trial-step-is : (power torn : ℕ) → trialStepOf layout p power torn s ≡ cutOutcome (cut power torn (stepRun layout p s) s)
+    unfolding trialStepOf
+    trial-step-is power torn = refl

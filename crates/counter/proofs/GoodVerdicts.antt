@@ -2,11 +2,13 @@
 --   unless-good, found-good   a test passed on the way to a count
 --   CellsGood, cells-good     what a good verdict of an image says
 --   VerdictGood, verdict-good  and of a chip
---   verdict-room              a reading is not refused for want of a spare
+--   below-last                a count of 32 bits that is not the last
+--   ofStoring, cells-reads, verdict-reads  what storing alone is refused for, reading is not
 use Prim.Native.Nat.{ℕ, _-_, _^_, _<_}
 use mathlib.Core.Path.{_≡_, refl}
 use mathlib.Core.Bool.{Bool, true, false, cond, true≢false}
 use mathlib.Core.List.{List}
+use native.Mathlib.Omega.{arith}
 use lib.IntN.{ℤ, pos, _-ℤ_}
 use lib.ListN.{length}
 use borrow.Author.Tests.{eqb-true}
@@ -19,7 +21,7 @@ use Rattle.cells.specs.declared.row.Found.the-variants.{At, Nowhere}
 use Rattle.cells.specs.Chip.{Chip}
 use Rattle.counter.specs.declared.places.Places.{Places}
 use Rattle.counter.specs.declared.verdict.Refusal.{Refusal}
-use Rattle.counter.specs.declared.verdict.Refusal.the-variants.{BadLength, BadPlaces, NoMark, UnsoundMap, TwoCodes, LostNibble, Apart, NoSpare}
+use Rattle.counter.specs.declared.verdict.Refusal.the-variants.{BadLength, BadPlaces, NoMark, UnsoundMap, TwoCodes, BadCopy, LostNibble, Apart, LastCount, NoSpare, MapByte, PowerLost}
 use Rattle.counter.specs.declared.verdict.Verdict.{Verdict}
 use Rattle.counter.specs.declared.verdict.Verdict.the-variants.{Good, Refused}
 use Rattle.code.specs.Tabulate.{tabulate}
@@ -28,9 +30,9 @@ use Rattle.counter.specs.Slots.{lowest}
 use Rattle.counter.specs.Places.{lengthGood, placesGood, livesGood}
 use Rattle.counter.specs.Map.{mapIn, marked, pointerOf, sound}
 use Rattle.counter.specs.Reading.{dataAt, nibbleIn, countIn, close, decide, someTwofold, lostAt, unless, onFound, weigh, examine, verdictOf}
-use Rattle.counter.specs.Doors.{chipVerdict}
+use Rattle.counter.specs.Doors.{lastCount, chipVerdict}
 use Rattle.counter.proofs.SoundPointers.{Sound, test-sound}
-use Rattle.counter.proofs.Ready.{pointers, dataOf, Ready}
+use Rattle.counter.proofs.Ready.{pointers, Ready}
 
 module _ {c : ℕ} {lag : ℤ} where
   -- what is refused is not good
@@ -109,41 +111,58 @@ verdict-good layout p s e =
 
 -- ## What a reading is not refused for
 
-module _ {k : ℕ} where
-  unless-room :
-      (test : Bool) (why : Refusal) (rest : Verdict) → (why ≡ NoSpare k → ⊥)
-      → unless test why rest ≡ Refused (NoSpare k) → rest ≡ Refused (NoSpare k)
-  unless-room true why rest d e = e
-  unless-room false why rest d e = absurd (d (cc))
+-- what storing alone is refused for
+abbrev pub ofStoring : Refusal → Bool
+ofStoring BadLength = false
+ofStoring BadPlaces = false
+ofStoring NoMark = false
+ofStoring UnsoundMap = false
+ofStoring BadCopy = false
+ofStoring (TwoCodes nibble) = false
+ofStoring (LostNibble nibble) = false
+ofStoring (Apart lag) = false
+ofStoring LastCount = false
+ofStoring (NoSpare slot) = true
+ofStoring (MapByte address) = true
+ofStoring (PowerLost address) = true
 
-  found-room :
-      (f : Found) (why : ℕ → Refusal) (rest : Verdict) → ((n : ℕ) → why n ≡ NoSpare k → ⊥)
-      → onFound f why rest ≡ Refused (NoSpare k) → rest ≡ Refused (NoSpare k)
-  found-room (At n) why rest d e = absurd (d n (cc))
-  found-room Nowhere why rest d e = e
+module _ {why : Refusal} where
+  unless-reads : (test : Bool) (first : Refusal) (rest : Verdict) → ofStoring first ≡ false → (rest ≡ Refused why → ofStoring why ≡ false) → unless test first rest ≡ Refused why → ofStoring why ≡ false
+  unless-reads true first rest d f e = f e
+  unless-reads false first rest d f e = let same : first ≡ why = cc in rw (← same) d
 
-  decided-room : (t : Bool) (c : ℕ) (lag : ℤ) → cond t (Good c lag) (Refused (Apart lag)) ≡ Refused (NoSpare k) → ⊥
-  decided-room true c lag e = true≢false cc
-  decided-room false c lag e = true≢false cc
+  found-reads : (found : Found) (first : ℕ → Refusal) (rest : Verdict) → ((n : ℕ) → ofStoring (first n) ≡ false) → (rest ≡ Refused why → ofStoring why ≡ false) → onFound found first rest ≡ Refused why → ofStoring why ≡ false
+  found-reads (At n) first rest d f e = let same : first n ≡ why = cc in rw (← same) (d n)
+  found-reads Nowhere first rest d f e = f e
 
-  decide-room : (c d : ℕ) → decide c d ≡ Refused (NoSpare k) → ⊥
+  decided-reads : (t : Bool) (c : ℕ) (lag : ℤ) → cond t (Good c lag) (Refused (Apart lag)) ≡ Refused why → ofStoring why ≡ false
+  decided-reads true c lag e = absurd (true≢false cc)
+  decided-reads false c lag e = let same : Apart lag ≡ why = cc in rw (← same) refl
+
+  decide-reads : (c d : ℕ) → decide c d ≡ Refused why → ofStoring why ≡ false
   unfolding decide
-  decide-room c d e = decided-room (close (pos c -ℤ pos d)) c (pos c -ℤ pos d) e
+  decide-reads c d e = decided-reads (close (pos c -ℤ pos d)) c (pos c -ℤ pos d) e
 
-  weigh-room : (layout : Layout) (byte : ℕ → ℕ) → weigh layout byte ≡ Refused (NoSpare k) → ⊥
+  weigh-reads : (layout : Layout) (byte : ℕ → ℕ) → weigh layout byte ≡ Refused why → ofStoring why ≡ false
   unfolding weigh
-  weigh-room layout byte e =
+  weigh-reads layout byte =
       let reading : ℕ → Reading = λ k. readingOf (byte k) in
-      let h = found-room (lowest 8 0 (someTwofold layout byte)) TwoCodes _ (λ n q. true≢false cc) e in
-      let h′ = found-room (lowest 8 0 (lostAt layout reading)) LostNibble _ (λ n q. true≢false cc) h in
-      decide-room (countIn layout reading 0) (countIn layout reading (layout .copies - 1)) h′
+      found-reads (lowest 8 0 (someTwofold layout byte)) TwoCodes _ (λ n. refl)
+      (found-reads (lowest 8 0 (lostAt layout reading)) LostNibble _ (λ n. refl)
+      (decide-reads (countIn layout reading 0) (countIn layout reading (layout .copies - 1))))
 
-  pub verdict-room : (layout : Layout) (p : Places) (s : Chip) → chipVerdict layout p s ≡ Refused (NoSpare k) → ⊥
-  unfolding chipVerdict verdictOf examine
-  verdict-room layout p s e =
-      let h₁ = unless-room (livesGood s) BadLength _ (λ q. true≢false cc) e in
-      let h₂ = unless-room (lengthGood layout (length (s .cells))) BadLength _ (λ q. true≢false cc) h₁ in
-      let h₃ = unless-room (placesGood layout (length (s .cells)) p) BadPlaces _ (λ q. true≢false cc) h₂ in
-      let h₄ = unless-room (marked (mapIn layout p (s .cells))) NoMark _ (λ q. true≢false cc) h₃ in
-      let h₅ = unless-room (sound layout p (pointers layout p s)) UnsoundMap _ (λ q. true≢false cc) h₄ in
-      weigh-room layout (dataOf layout p s) h₅
+  pub cells-reads : (layout : Layout) (p : Places) (cells : List ℕ) → verdictOf layout p cells ≡ Refused why → ofStoring why ≡ false
+  unfolding verdictOf examine
+  cells-reads layout p cells =
+      unless-reads (lengthGood layout (length cells)) BadLength _ refl
+      (unless-reads (placesGood layout (length cells) p) BadPlaces _ refl
+      (unless-reads (marked (mapIn layout p cells)) NoMark _ refl
+      (unless-reads (sound layout p (pointerOf (mapIn layout p cells))) UnsoundMap _ refl
+      (weigh-reads layout (dataAt cells (mapIn layout p cells))))))
+
+  pub verdict-reads : (layout : Layout) (p : Places) (s : Chip) → chipVerdict layout p s ≡ Refused why → ofStoring why ≡ false
+  unfolding chipVerdict
+  verdict-reads layout p s = unless-reads (livesGood s) BadLength _ refl (cells-reads layout p (s .cells))
+
+pub below-last : {c : ℕ} → c < 2 ^ 32 → (c ≡ lastCount → ⊥) → c < lastCount
+below-last small other = omega arith

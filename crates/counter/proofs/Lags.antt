@@ -4,14 +4,16 @@
 --   lag-bits                  and so can be kept as bits and read back
 --   decide-level, decide-ahead  lag 0 and lag 1 answer
 --   decide-apart              any other is refused
-use Prim.Native.Nat.{ℕ, zero, suc, _-_, _^_, _≤_, _<_}
-use mathlib.Core.Path.{_≡_, refl, ap₂, _∙_}
-use mathlib.Core.Bool.{false}
+--   lag-level, lag-ahead      counts of lag 0 are equal, and of lag 1 one apart
+--   decide-same, decide-next, decide-other  what counts decide that are equal, one apart, or neither
+use Prim.Native.Nat.{ℕ, zero, suc, _+_, _-_, _^_, _≤_, _<_}
+use mathlib.Core.Path.{_≡_, refl, sym, ap₂, _∙_}
+use mathlib.Core.Bool.{false, true≢false}
 use native.Mathlib.Decide.{decLe}
 use native.Mathlib.Nat.{add-zero, sub-zero}
 use native.Mathlib.Omega.{arith}
 use borrow.Author.Tests.{lt-ltb, le-ltb, lt-leb}
-use lib.IntN.{ℤ, pos, negsuc, _-ℤ_}
+use lib.IntN.{ℤ, pos, negsuc, _-ℤ_, +ℤ-invr}
 use mir.Syntax.{w64}
 use mir.Val.{SFits, toZ, ofZ}
 use mir.Facts.{toZ-ofZ, toZ-pos}
@@ -63,3 +65,29 @@ decide-ahead a b e = rw e
 pub decide-apart : (a b : ℕ) → (pos a -ℤ pos b ≡ pos 0 → ⊥) → (pos a -ℤ pos b ≡ pos 1 → ⊥) → decide a b ≡ Refused (Apart (pos a -ℤ pos b))
 unfolding decide
 decide-apart a b none one = rw (close-not (pos a -ℤ pos b) none one)
+
+-- a small lag tells the one count from the other
+lag-small : (a b n : ℕ) → pos a -ℤ pos b ≡ pos n → a ≡ b + n
+lag-small a b n e = go (decLe b a)
+  where
+    go : Dec (b ≤ a) → a ≡ b + n
+    go (yes h) = let q : pos (a - b) ≡ pos n = sym (ahead a b h) ∙ e in let same : a - b ≡ n = cc in omega arith
+    go (no h) = let q : negsuc (b - suc a) ≡ pos n = sym (behind a b (omega arith)) ∙ e in absurd (true≢false cc)
+
+pub lag-level : (a b : ℕ) → pos a -ℤ pos b ≡ pos 0 → a ≡ b
+lag-level a b e = let q = lag-small a b 0 e in omega arith
+
+pub lag-ahead : (a b : ℕ) → pos a -ℤ pos b ≡ pos 1 → a ≡ b + 1
+lag-ahead a b e = lag-small a b 1 e
+
+pub decide-same : (c : ℕ) → decide c c ≡ Good c (pos 0)
+decide-same c = rw (sym (+ℤ-invr (pos c))) (decide-level c c (+ℤ-invr (pos c)))
+
+pub decide-next : (c : ℕ) → decide (c + 1) c ≡ Good (c + 1) (pos 1)
+decide-next c = rw (sym one) (decide-ahead (c + 1) c one)
+  where
+    one : pos (c + 1) -ℤ pos c ≡ pos 1
+    one = let e : c + 1 - c ≡ 1 = omega arith in ahead (c + 1) c (omega arith) ∙ rw e
+
+pub decide-other : (a b : ℕ) → (a ≡ b → ⊥) → (a ≡ b + 1 → ⊥) → decide a b ≡ Refused (Apart (pos a -ℤ pos b))
+decide-other a b level ahead = decide-apart a b (λ e. level (lag-level a b e)) (λ e. ahead (lag-ahead a b e))

@@ -22,6 +22,7 @@ pub mod PointerRows
 pub mod WorkSteps
 pub mod Openings
 pub mod OpeningViews
+pub mod OpeningCosts
 pub mod NextStores
 pub mod ReadBack
 pub mod PlainBytes

@@ -5,20 +5,18 @@
 --   narrow-behind             an address taken behind another
 --   spares-fit                the spares of a gap are a row of cells of the image
 --   spares-none, spares-held, spares-passed  spares tried: none, the next one holds, or the next one fails
---   spares-written            the next one has life and another byte: it is written, once, and nothing else
+--   spares-alive              the next one has life: it is put there, and no other is tried
 use Prim.Native.Nat.{ℕ, suc, _+_, _-_, _%_, _≤_, _<_, min, max}
-use mathlib.Core.Path.{_≡_, sym, ap, _∙_}
+use mathlib.Core.Path.{_≡_, ap, _∙_}
 use mathlib.Core.Bool.{Bool, true, false, true≢false}
-use mathlib.Core.List.{[], _∷_}
 use native.Mathlib.Omega.{arith}
 use Rattle.cells.specs.declared.row.Found.the-variants.{At, Nowhere}
-use Rattle.cells.specs.Chip.{Chip, cellAt, lifeAt, writeAt, Paired}
-use Rattle.cells.specs.Run.{Run, Seen, write, run, seen, view, _then_, _giving_}
+use Rattle.cells.specs.Chip.{Chip, lifeAt, Paired}
+use Rattle.cells.specs.Run.{Run, run, still, _then_, _giving_}
 use Rattle.cells.specs.Put.{putAt}
 use Rattle.cells.specs.declared.row.Way.the-variants.{Up, Down}
 use Rattle.cells.specs.Row.{next, RowFits, tryAt}
-use Rattle.cells.proofs.Puts.{put-laws}
-use Rattle.cells.proofs.Walks.{next-nth, walk-none, walk-held, walk-miss, walk-laws, try-put}
+use Rattle.cells.proofs.Walks.{next-nth, walk-none, walk-hit, walk-miss, walk-laws, try-put}
 use Rattle.counter.specs.declared.map.Kind.{Kind}
 use Rattle.counter.specs.declared.map.Kind.the-variants.{High, Low}
 use Rattle.counter.specs.declared.spares.Gap.{Gap}
@@ -98,7 +96,7 @@ spares-fit Low fits = (omega arith, λ some. omega arith)
 -- ## Spares tried
 
 module _ (k : ℕ) (g : Gap) (b : ℕ) (s : Chip) where
-  pub spares-none : sparesOf (kindOf k) g ≡ 0 → view (trySpares k g b s) ≡ seen Nowhere 0 0 s
+  pub spares-none : sparesOf (kindOf k) g ≡ 0 → trySpares k g b s ≡ still Nowhere s
   unfolding trySpares
   spares-none none = rw (none, walk-none)
 
@@ -109,17 +107,16 @@ module _ (k : ℕ) (g : Gap) (b : ℕ) (s : Chip) where
     abbrev left : Gap
     left = narrow (kindOf k) at g
 
-    pub spares-held : {v : Seen Bool} → v ≡ view (putAt at b s) → v .answer ≡ true → seen (At at) (v .writes) 1 (v .after) ≡ view (trySpares k g b s)
+    pub spares-held : putAt at b s .answer ≡ true → trySpares k g b s ≡ tryAt at b s giving At at
     unfolding trySpares
-    spares-held e h = rw (spares-fewer (kindOf k) g some) (sym (walk-held _ _ at b s e h))
+    spares-held h = rw (spares-fewer (kindOf k) g some) (walk-hit _ _ at b s h)
 
     pub spares-passed : putAt at b s .answer ≡ false → trySpares k g b s ≡ tryAt at b s then trySpares k left b (putAt at b s .after)
     unfolding trySpares
     spares-passed h = rw (spares-fewer (kindOf k) g some, ← next-on (kindOf k) g some) (walk-miss _ _ at b s h)
 
-    pub spares-written : Paired s → 1 ≤ lifeAt s at → (cellAt s at ≡ b → ⊥) → trySpares k g b s ≡ run (At at) (write at b ∷ []) 1 (writeAt at b s)
+    pub spares-alive : Paired s → 1 ≤ lifeAt s at → trySpares k g b s ≡ run (At at) (putAt at b s .log) 1 (putAt at b s .after)
     unfolding trySpares
-    spares-written paired life other =
+    spares-alive paired life =
         walk-laws (sparesOf (kindOf k) g) (wayOf (kindOf k)) at b s paired .first (omega arith) life
         ∙ ap (λ (r : Run Bool). r giving At at) (try-put at b s)
-        ∙ ap (λ (r : Run Bool). run (At at) (r .log) 1 (r .after)) (put-laws at b s paired .taken other life)

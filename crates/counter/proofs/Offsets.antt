@@ -6,6 +6,7 @@
 --   offset-before             a slot's pointer ends before any later slot's begins
 --   offset-inside             it ends inside the map
 --   offset-most               no slot's pointer, nor what follows the last one, begins behind the map's end
+--   low-bytes, high-bytes     a Low pointer has two bytes, a High one has one
 --   low-inside, high-inside   so do the two bytes of a Low one, and the one of a High one
 --   offset-low, offset-high   where it starts, by its kind
 --   pointer-low, pointer-high a pointer by its bytes
@@ -111,6 +112,14 @@ offset-most layout k h = go (lies k)
     go : Lies k → offsetOf k ≤ mapCells layout
     go (low h′ kind at size) = omega arith
     go (high h′ kind at size) = omega arith
+
+pub low-bytes : (k : ℕ) → k % 8 < 3 → bytesOf (kindOf k) ≡ 2
+unfolding bytesOf
+low-bytes k l = rw (kind-low k l)
+
+pub high-bytes : (k : ℕ) → 3 ≤ k % 8 → bytesOf (kindOf k) ≡ 1
+unfolding bytesOf
+high-bytes k l = rw (kind-high k l)
 
 pub low-inside : (layout : Layout) (k : ℕ) → k < slots layout → k % 8 < 3 → offsetOf k + 2 ≤ mapCells layout
 unfolding bytesOf

@@ -1,6 +1,7 @@
 -- A first opening: what it keeps, what it changes.
 --   MapEnded                  how putting the map can end
 --   PointsLaws, points-laws   addresses put as pointers, one slot after another
+--   OfMark, mark-pointers     one of the mark's two cells; where these alone change, the pointers stay
 --   MarkLaws, mark-laws       the mark put
 --   MapLaws, map-laws         both, one behind the other
 --   Opened                    what a first opening comes to where it is done
@@ -18,10 +19,11 @@ use lib.ListN.{length, getD}
 use Rattle.code.specs.Codes.{codeOf}
 use Rattle.code.specs.Nibbles.{nibbleOf}
 use Rattle.cells.specs.declared.row.Found.the-variants.{Nowhere}
-use Rattle.cells.specs.Chip.{Chip, cellAt}
+use Rattle.cells.specs.declared.row.Way.the-variants.{Up}
+use Rattle.cells.specs.Chip.{Chip, cellAt, Kept}
 use Rattle.cells.specs.Run.{Run, _then_, _giving_}
 use Rattle.cells.specs.Log.{Within}
-use Rattle.cells.specs.Row.{putRow}
+use Rattle.cells.specs.Row.{putRow, InRow}
 use Rattle.cells.proofs.Logs.{within-still, within-wider, within-giving, within-then, within-kept}
 use Rattle.cells.proofs.Rows.{RowLaws, row-laws}
 use Rattle.counter.specs.declared.places.Places.{Places}
@@ -122,6 +124,9 @@ module _ (layout : Layout) (p : Places) where
 
 -- ## The mark
 
+abbrev pub OfMark : Places → ℕ → Type 0
+OfMark p = InRow (length markBytes) Up (p .map)
+
 pub record MarkLaws (layout : Layout) (p : Places) (s : Chip) : Type 0 where
   pub within : Within (InMap layout p) s (putMark layout p s)
   pub tried : putMark layout p s .tried ≡ 0
@@ -130,6 +135,12 @@ pub record MarkLaws (layout : Layout) (p : Places) (s : Chip) : Type 0 where
   pub ended : MapEnded (putMark layout p s .answer)
 
 module _ {layout : Layout} {p : Places} {s : Chip} (ready : Ready layout p s) where
+  pub mark-pointers : {t : Chip} → Kept (OfMark p) s t → (j : ℕ) → j < slots layout → pointers layout p t j ≡ pointers layout p s j
+  mark-pointers kept j l =
+      let h = offset-first j in
+      let h′ = offset-inside layout j l in
+      pointer-same _ _ j (λ i from to. byte-kept ready kept i (omega arith) (λ o. let u = o .1 in omega arith))
+
   row : RowLaws markBytes (p .map) s
   row = row-laws markBytes (p .map) s (ready .paired)
 
@@ -144,17 +155,11 @@ module _ {layout : Layout} {p : Places} {s : Chip} (ready : Ready layout p s) wh
       record {
         within = within-giving _ (within-wider (λ c i. record { from = i .0; to = let h = i .1 in omega arith }) (row .within));
         tried = row .tried;
-        pointed = stays;
+        pointed = mark-pointers (row .kept);
         marks = λ e. mark-put _ (mark-byte (mapped-done _ e) 0 (omega arith)) (mark-byte (mapped-done _ e) 1 (omega arith));
         ended = ends (mapped-either (putRow markBytes (p .map) s .answer));
       }
     where
-      stays : (j : ℕ) → j < slots layout → pointers layout p (putRow markBytes (p .map) s .after) j ≡ pointers layout p s j
-      stays j l =
-          let h = offset-first j in
-          let h′ = offset-inside layout j l in
-          pointer-same _ _ j (λ i from to. byte-kept ready (row .kept) i (omega arith) (λ o. let u = o .1 in omega arith))
-
       ends :
           (mapped (putRow markBytes (p .map) s .answer) ≡ Done) ⊎ ((x : ℕ) × (mapped (putRow markBytes (p .map) s .answer) ≡ Stopped (MapByte x)))
           → MapEnded (mapped (putRow markBytes (p .map) s .answer))

@@ -1,38 +1,31 @@
 -- The pointers of all slots as one row of bytes.
---   mapRow                    bytes put in the map
 --   pointers-row, mark-row    addresses put as pointers are a row put, and so is the mark
 --   row-length                the row of pointers ends where the next slot's pointer begins
---   laid, laid-none, laid-all, laid-low, laid-high  a row laid slot by slot in an array of bytes
-use Prim.Native.Nat.{ℕ, suc, _+_, _-_, _/_, _%_, _≤_, _<_}
+--   row-more, laid-low, laid-high  a row laid slot by slot in an array of bytes
+use Prim.Native.Nat.{ℕ, suc, _+_, _/_, _%_, _≤_, _<_}
 use mathlib.Core.Path.{_≡_, refl}
 use mathlib.Core.List.{List, [], _∷_, _++_, append-assoc, append-nil}
 use native.Mathlib.Nat.{add-zero}
 use native.Mathlib.Numerals.{add-one}
 use native.Mathlib.Omega.{arith}
-use lib.ListN.{length, getD, take, drop, set, length-append, length-set}
-use lib.Seq.{take-all, take-suc-set, drop-cons, drop-length}
+use lib.ListN.{length, take, set, length-append, length-set}
+use lib.Seq.{take-suc-set}
 use Rattle.cells.specs.declared.row.Found.{Found}
 use Rattle.cells.specs.declared.row.Found.the-variants.{At, Nowhere}
 use Rattle.cells.specs.Chip.{Chip}
-use Rattle.cells.specs.Run.{Run, _giving_}
 use Rattle.cells.specs.Row.{putRow}
 use Rattle.cells.proofs.Rows.{row-none, row-behind, row-alone}
 use Rattle.counter.specs.declared.places.Places.{Places}
-use Rattle.counter.specs.declared.verdict.Work.{Work}
 use Rattle.counter.specs.Layout.{Layout}
 use Rattle.counter.specs.Slots.{kindOf}
-use Rattle.counter.specs.Map.{markBytes, offsetIn, offsetOf, pointerBytes}
+use Rattle.counter.specs.Map.{markBytes, offsetOf, pointerBytes}
 use Rattle.counter.specs.Verdict.{_andThen_}
 use Rattle.counter.specs.Store.{putPointer, mapped}
 use Rattle.counter.specs.Opening.{putPointers, putMark}
-use Rattle.counter.specs.Inside.{pointerRow}
-use Rattle.counter.proofs.Offsets.{kind-low, kind-high, bytesOf, bytes-length, offset-first, offset-next}
+use Rattle.counter.specs.Inside.{pointerRow, mapRow}
+use Rattle.counter.proofs.Offsets.{kind-low, kind-high, bytes-length, offset-next}
 
 -- ## A row put
-
--- bytes put in the map
-abbrev pub mapRow : List ℕ → ℕ → Chip → Run Work
-mapRow bs a s = let r = putRow bs a s in r giving mapped (r .answer)
 
 -- a row of map bytes, and then the bytes behind it
 map-behind : (bs cs : List ℕ) (a : ℕ) (s : Chip) → mapRow bs a s andThen mapRow cs (a + length bs) ≡ mapRow (bs ++ cs) a s
@@ -64,38 +57,23 @@ row-length (a ∷ rest) k =
 
 -- ## A row laid slot by slot in an array of bytes
 
-module _ (addresses : List ℕ) where
-  -- what is laid when k slots have their bytes, and what is left
-  abbrev pub laid : List ℕ → ℕ → List ℕ
-  laid bytes k = take (offsetOf k - 2) bytes ++ pointerRow (drop k addresses) k
+-- one address more
+pub row-more : (addresses : List ℕ) (a k : ℕ) → pointerRow (addresses ++ (a ∷ [])) k ≡ pointerRow addresses k ++ pointerBytes (kindOf (k + length addresses)) a
+unfolding pointerRow
+row-more [] a k = rw (add-zero k, append-nil)
+row-more (b ∷ rest) a k =
+    let sum : k + suc (length rest) ≡ k + 1 + length rest = omega arith in
+    rw (sum, row-more rest a (k + 1), append-assoc)
 
-  pub laid-none : (bytes : List ℕ) → pointerRow addresses 0 ≡ laid bytes 0
-  unfolding offsetOf offsetIn
-  laid-none bytes = refl
+module _ (bytes : List ℕ) (k a end : ℕ) where
+  -- the bytes of a slot's pointer, laid behind those of the slots before it
+  pub laid-low : k % 8 < 3 → end + 1 < length bytes → take (end + 1 + 1) (set (set bytes end (a % 256)) (end + 1) (a / 256)) ≡ take end bytes ++ pointerBytes (kindOf k) a
+  unfolding pointerBytes
+  laid-low h l =
+      rw (kind-low k h, add-one (end + 1), take-suc-set (set bytes end (a % 256)) (end + 1) (a / 256) (rw length-set l), add-one end, take-suc-set bytes end (a % 256) (omega arith), append-assoc)
 
-  pub laid-all : (bytes : List ℕ) (k : ℕ) → k ≡ length addresses → length bytes ≤ offsetOf k - 2 → laid bytes k ≡ bytes
-  unfolding pointerRow
-  laid-all bytes k e f = rw (take-all (offsetOf k - 2) bytes f, e, drop-length addresses) (append-nil bytes)
-
-  module _ (bytes : List ℕ) (k at : ℕ) (inside : k < length addresses) (here : at ≡ offsetOf k - 2) where
-    -- the bytes of slot k laid behind the others
-    laid-more : (after : List ℕ) → take (offsetOf (k + 1) - 2) after ≡ take at bytes ++ pointerBytes (kindOf k) (getD addresses k 0) → laid bytes k ≡ laid after (k + 1)
-    unfolding pointerRow
-    laid-more after e = rw (e, drop-cons addresses k 0 inside, add-one k, append-assoc, here)
-
-    pub laid-low : k % 8 < 3 → at + 1 < length bytes → laid bytes k ≡ laid (set (set bytes at (getD addresses k 0 % 256)) (at + 1) (getD addresses k 0 / 256)) (k + 1)
-    unfolding pointerBytes bytesOf
-    laid-low h l =
-        let low = kind-low k h in
-        let size : bytesOf (kindOf k) ≡ 2 = rw low in
-        let end : offsetOf (k + 1) - 2 ≡ suc (at + 1) = omega (arith, offset-next k, offset-first k) in
-        laid-more _ (rw (end, take-suc-set (set bytes at (getD addresses k 0 % 256)) (at + 1) (getD addresses k 0 / 256) (rw length-set l), add-one at, take-suc-set bytes at (getD addresses k 0 % 256) (omega arith), low, append-assoc))
-
-    pub laid-high : 3 ≤ k % 8 → at < length bytes → getD addresses k 0 ≤ 255 → laid bytes k ≡ laid (set bytes at (getD addresses k 0 % 256)) (k + 1)
-    unfolding pointerBytes bytesOf
-    laid-high h l small =
-        let high = kind-high k h in
-        let size : bytesOf (kindOf k) ≡ 1 = rw high in
-        let same : getD addresses k 0 % 256 ≡ getD addresses k 0 = omega arith in
-        let end : offsetOf (k + 1) - 2 ≡ suc at = omega (arith, offset-next k, offset-first k) in
-        laid-more _ (rw (end, take-suc-set bytes at (getD addresses k 0 % 256) l, high, same))
+  pub laid-high : 3 ≤ k % 8 → end < length bytes → a ≤ 255 → take (end + 1) (set bytes end (a % 256)) ≡ take end bytes ++ pointerBytes (kindOf k) a
+  unfolding pointerBytes
+  laid-high h l small =
+      let same : a % 256 ≡ a = omega arith in
+      rw (kind-high k h, add-one end, take-suc-set bytes end (a % 256) l, same)

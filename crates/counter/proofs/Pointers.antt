@@ -21,11 +21,11 @@ use Rattle.counter.specs.declared.verdict.Work.the-variants.{Done, Stopp
 use Rattle.counter.specs.declared.verdict.Refusal.the-variants.{MapByte}
 use Rattle.counter.specs.Layout.{Layout, slots}
 use Rattle.counter.specs.Slots.{kindOf}
-use Rattle.counter.specs.Map.{mapIn, byteAt, marked, offsetOf, pointerBytes}
+use Rattle.counter.specs.Map.{mapIn, marked, offsetOf, pointerBytes}
 use Rattle.counter.specs.Store.{putPointer, mapped}
 use Rattle.counter.proofs.Offsets.{bytesOf, bytes-length, offset-first, offset-before, offset-inside}
-use Rattle.counter.proofs.MapBytes.{map-byte, pointer-same, pointer-put, mark-same}
-use Rattle.counter.proofs.Ready.{pointers, Ready, InMap, byte-kept, apart-map}
+use Rattle.counter.proofs.MapBytes.{map-byte, pointer-same, pointer-put}
+use Rattle.counter.proofs.Ready.{pointers, Ready, InMap, byte-kept, mark-kept, apart-map}
 
 pub record OfPointer (p : Places) (k a : ℕ) : Type 0 where
   pub from : p .map + offsetOf k ≤ a
@@ -101,10 +101,7 @@ module _ {layout : Layout} {p : Places} {s : Chip} (ready : Ready layout p s) (k
         pointer-same _ _ j (λ i from to. byte-kept ready (within-kept put-in) i (omega arith) (apart j i d from to))
 
     put-mark : marked (mapIn layout p (putPointer layout p k a s .after .cells)) ≡ marked (mapIn layout p (s .cells))
-    put-mark = mark-same _ _ (byte 0 (omega arith)) (byte 1 (omega arith))
-      where
-        byte : (j : ℕ) → j < 2 → byteAt (mapIn layout p (putPointer layout p k a s .after .cells)) j ≡ byteAt (mapIn layout p (s .cells)) j
-        byte j m = let h = offset-first k in byte-kept ready (within-kept put-in) j (omega arith) (λ o. let h′ = o .from in omega arith)
+    put-mark = mark-kept ready (within-kept put-in) (λ j m o. let h = offset-first k in let h′ = o .from in omega arith)
 
     pub pointer-laws : PointerLaws layout p k a s
     pointer-laws =

@@ -4,9 +4,10 @@
 --   test-sound, sound-test    the test turned into it and back
 --   test-reach, reach-test    so for the one clause on High pointers
 --   sound-none                of no slots
+--   sound-same                pointers that agree on those slots are sound alike
 --   below-apart               different from every earlier one is different from every other
 use Prim.Native.Nat.{ℕ, _≤_, _<_}
-use mathlib.Core.Path.{_≡_, refl, sym, ap}
+use mathlib.Core.Path.{_≡_, refl, sym, ap, _∙_}
 use mathlib.Core.Bool.{true, not, true≢false}
 use native.Mathlib.Decide.{decLt}
 use native.Mathlib.Omega.{arith}
@@ -103,4 +104,13 @@ sound-none p pointer =
       reach = λ k l e. absurd (omega arith);
       apart = λ i j l m d e. omega arith;
       order = λ i j l m e f. absurd (omega arith);
+    }
+
+pub sound-same : {n : ℕ} {p : Places} {f : ℕ → ℕ} (g : ℕ → ℕ) → ((k : ℕ) → k < n → g k ≡ f k) → Sound n p f → Sound n p g
+sound-same g same sound =
+    record {
+      inside = λ k l. rw (same k l) (sound .inside k l);
+      reach = λ k l high. rw (same k l) (sound .reach k l high);
+      apart = λ i j l m d e. sound .apart i j l m d (sym (same i l) ∙ e ∙ same j m);
+      order = λ i j l m high low. rw (same i l, same j m) (sound .order i j l m high low);
     }

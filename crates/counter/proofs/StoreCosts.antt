@@ -2,7 +2,7 @@
 --   tries-few                 the spares of a slot, as many as the gap has cells
 --   pointer-few               a pointer
 --   move-few, slot-few        a byte moved, and a slot
---   store-few                 a count
+--   store-cost, store-few, twice-few  a count, and two
 use Prim.Native.Nat.{ℕ, zero, suc, _+_, _*_, _≤_}
 use mathlib.Core.Path.{_≡_, refl}
 use mathlib.Core.Bool.{Bool, true, false}
@@ -21,7 +21,7 @@ use Rattle.counter.specs.declared.map.Kind.the-variants.{High, Low}
 use Rattle.counter.specs.declared.places.Places.{Places}
 use Rattle.counter.specs.declared.spares.Gap.{Gap}
 use Rattle.counter.specs.declared.verdict.Work.{Work}
-use Rattle.counter.specs.declared.verdict.Work.the-variants.{Done}
+use Rattle.counter.specs.declared.verdict.Work.the-variants.{Done, Stopped}
 use Rattle.counter.specs.Layout.{Layout, slots}
 use Rattle.counter.specs.Slots.{kindOf}
 use Rattle.counter.specs.Inside.{fitted}
@@ -29,18 +29,18 @@ use Rattle.counter.specs.Map.{offsetOf, pointerBytes, sound}
 use Rattle.counter.specs.Verdict.{_andThen_}
 use Rattle.counter.specs.Store.{slotCode, putPointer, trySpares, moveSlot, storeSlot, storeFrom, store}
 use Rattle.counter.proofs.Offsets.{bytesOf, bytes-length}
-use Rattle.counter.proofs.SoundPointers.{Sound, test-sound}
+use Rattle.counter.proofs.SoundPointers.{Sound, test-sound, sound-test}
 use Rattle.counter.proofs.Gaps.{between-map}
 use Rattle.counter.proofs.Ready.{pointers, dataOf, Ready, ready-placed, ready-kept}
-use Rattle.counter.proofs.Fitted.{fitted-ready, ready-short}
+use Rattle.counter.proofs.Fitted.{fitted-ready, ready-fitted, ready-short}
 use Rattle.counter.proofs.Tries.{room, spares-room}
 use Rattle.counter.proofs.Moves.{SlotLaws, change, gapAt, tries, first, move-missing, move-landing, slot-held, slot-failed, slot-laws, Ended, Ended.done, Ended.roomless, Ended.unmapped}
-use Rattle.counter.proofs.Stores.{done-then, stopped-then}
+use Rattle.counter.proofs.Stores.{done-then, stopped-then, store-laws}
 
 -- at most so many writes, and so many tries
-record Costs {A : Type 0} (writes tried : ℕ) (r : Run A) : Type 0 where
-  asks : length (r .log) ≤ writes
-  tries : r .tried ≤ tried
+pub record Costs {A : Type 0} (writes tried : ℕ) (r : Run A) : Type 0 where
+  pub asks : length (r .log) ≤ writes
+  pub tries : r .tried ≤ tried
 
 pub tries-few : (k : ℕ) (g : Gap) (b : ℕ) (s : Chip) {v : Seen Found} → v ≡ view (trySpares k g b s) → (v .writes ≤ v .tried) × (v .tried ≤ room g)
 unfolding trySpares
@@ -72,7 +72,7 @@ module _ {layout : Layout} {p : Places} {s : Chip} (ready : Ready layout p s) (k
       let short = ready-short ready in
       record { asks = omega arith; tries = omega arith }
 
-  move-cost : Costs 4098 4096 (moveSlot layout p k b s)
+  pub move-cost : Costs 4098 4096 (moveSlot layout p k b s)
   move-cost = go (tries layout p k b s .answer) refl
     where
       go : (f : Found) → tries layout p k b s .answer ≡ f → Costs 4098 4096 (moveSlot layout p k b s)
@@ -126,8 +126,29 @@ module _ (layout : Layout) (p : Places) (c : ℕ) where
       go (roomless j e) rest = rw (stopped-then r _ _ e) few
       go (unmapped a e) rest = rw (stopped-then r _ _ e) few
 
+  -- a store asks few writes
+  pub store-cost : (s : Chip) → fitted layout p s ≡ true → sound layout p (pointers layout p s) ≡ true → length (store layout p c s .log) ≤ 4099 * slots layout
+  unfolding store
+  store-cost s good well = from-cost (slots layout) 0 s (omega arith) (fitted-ready good) (test-sound layout p _ well) .asks
+
   pub store-few : (s : Chip) {v : Seen Work} → fitted layout p s ≡ true → sound layout p (pointers layout p s) ≡ true → v ≡ view (store layout p c s) → (v .writes ≤ 4099 * slots layout) × (v .tried ≤ 4096 * slots layout)
   unfolding store
   store-few s good well e =
       let all = from-cost (slots layout) 0 s (omega arith) (fitted-ready good) (test-sound layout p _ well) in
       rw e (all .asks, all .tries)
+
+-- so do two stores, one behind the other
+pub twice-few : (layout : Layout) (p : Places) (c d : ℕ) (s : Chip) → fitted layout p s ≡ true → sound layout p (pointers layout p s) ≡ true
+    → length ((store layout p c s andThen store layout p d) .log) ≤ 8198 * slots layout
+twice-few layout p c d s good well = go (store layout p c s .answer) refl
+  where
+    few : length (store layout p c s .log) ≤ 4099 * slots layout
+    few = store-cost layout p c s good well
+
+    go : (w : Work) → store layout p c s .answer ≡ w → length ((store layout p c s andThen store layout p d) .log) ≤ 8198 * slots layout
+    go Done h =
+        let laws = store-laws layout p c s (fitted-ready good) (test-sound layout p _ well) in
+        let fit = ready-fitted (ready-kept (fitted-ready good) (within-kept (laws .within))) in
+        let more = store-cost layout p d (store layout p c s .after) fit (sound-test layout p _ (laws .stored h .sound)) in
+        rw (done-then (store layout p c s) (store layout p d) h, length-append) (omega (arith, few, more))
+    go (Stopped why) h = rw (stopped-then (store layout p c s) (store layout p d) why h) (omega (arith, few))

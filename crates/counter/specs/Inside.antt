@@ -1,12 +1,19 @@
 -- What the contracts of functions inside the crate are said with. No promise of a door rests on anything here.
-use Prim.Native.Nat.{ℕ, _+_, _%_, _≤_, _<_}
+use Prim.Native.Nat.{ℕ, _+_, _-_, _%_, _^_, _≤_, _<_}
 use mathlib.Core.Path.{_≡_}
 use mathlib.Core.Bool.{Bool, true, false, cond, _&&_, _||_}
 use mathlib.Core.List.{List, [], _∷_, _++_}
 use lib.IntN.{ℤ}
-use lib.ListN.{length, getD}
+use lib.ListN.{length, getD, take}
 use lib.Dec.{ltb}
+use Rattle.cells.specs.declared.mains.Mains.{Mains}
+use Rattle.cells.specs.declared.row.Found.{Found}
+use Rattle.cells.specs.declared.row.Found.the-variants.{At, Nowhere}
+use Rattle.cells.specs.declared.row.RowPut.{RowPut}
 use Rattle.cells.specs.Chip.{Chip}
+use Rattle.cells.specs.Run.{Run, Seen, seen, plus, _giving_}
+use Rattle.cells.specs.Row.{putRow}
+use Rattle.cells.specs.Cut.{Says}
 use Rattle.code.specs.Readings.{isLost}
 use Rattle.code.specs.Entries.{readingAt, twofoldAt}
 use Rattle.counter.specs.declared.places.Places.{Places}
@@ -18,13 +25,17 @@ use Rattle.counter.specs.declared.verdict.Verdict.{Verdict}
 use Rattle.counter.specs.declared.verdict.Verdict.the-variants.{Good}
 use Rattle.counter.specs.declared.verdict.Work.{Work}
 use Rattle.counter.specs.declared.verdict.Work.the-variants.{Done, Stopped}
-use Rattle.counter.specs.declared.verdict.Refusal.the-variants.{BadLength, BadPlaces, NoSpare}
+use Rattle.counter.specs.declared.store.Stored.{Stored}
+use Rattle.counter.specs.declared.verdict.Refusal.{Refusal}
+use Rattle.counter.specs.declared.verdict.Refusal.the-variants.{BadLength, BadPlaces, NoMark, UnsoundMap, BadCopy, TwoCodes, LostNibble, Apart, LastCount, NoSpare, MapByte, PowerLost}
 use Rattle.counter.specs.Layout.{Layout, two, slots, mapCells}
 use Rattle.counter.specs.Slots.{kindOf}
 use Rattle.counter.specs.Places.{lengthGood, placesGood, livesGood}
-use Rattle.counter.specs.Map.{mapIn, marked, pointerOf, pointerBytes}
+use Rattle.counter.specs.Map.{mapIn, marked, offsetOf, pointerOf, pointerBytes}
+use Rattle.counter.specs.Spares.{wholeArea}
 use Rattle.counter.specs.Reading.{dataAt}
-use Rattle.counter.specs.Store.{slotCode}
+use Rattle.counter.specs.Store.{slotCode, mapped}
+use Rattle.counter.specs.Opening.{taken, takeFrom, untried}
 
 -- a chip lent with its lives, of which refusals 1 and 2 do not hold
 unfoldable pub fitted : Layout → Places → Chip → Bool
@@ -72,10 +83,57 @@ stopped Done = false
 stopped (Stopped why) = true
 
 -- how a taking ended that served so many slots
-abbrev pub served : ℕ → Work
-served count = cond (ltb count (slots two)) (Stopped (NoSpare count)) Done
+abbrev pub served : Layout → ℕ → Work
+served layout count = cond (ltb count (slots layout)) (Stopped (NoSpare count)) Done
 
 -- the bytes that hold addresses as the pointers of the slots from k on
 unfoldable pub pointerRow : List ℕ → ℕ → List ℕ
 pointerRow [] k = []
 pointerRow (a ∷ rest) k = pointerBytes (kindOf k) a ++ pointerRow rest (k + 1)
+
+-- bytes put in the map
+abbrev pub mapRow : List ℕ → ℕ → Chip → Run Work
+mapRow bs a s = let r = putRow bs a s in r giving mapped (r .answer)
+
+-- where the power was lost, if that is how a piece of storing ended
+abbrev pub lossIn : Refusal → Found
+lossIn BadLength = Nowhere
+lossIn BadPlaces = Nowhere
+lossIn NoMark = Nowhere
+lossIn UnsoundMap = Nowhere
+lossIn BadCopy = Nowhere
+lossIn (TwoCodes nibble) = Nowhere
+lossIn (LostNibble nibble) = Nowhere
+lossIn (Apart lag) = Nowhere
+lossIn LastCount = Nowhere
+lossIn (NoSpare slot) = Nowhere
+lossIn (MapByte address) = Nowhere
+lossIn (PowerLost address) = At address
+
+abbrev pub lossOf : Work → Found
+lossOf Done = Nowhere
+lossOf (Stopped why) = lossIn why
+
+-- what a function says of a piece of storing, which left such a chip
+abbrev pub told : Stored → Chip → Seen Work
+told done t = seen (done .work) (done .writes) (done .tried) t
+
+-- and that it is so, on mains that can be lost
+abbrev pub Works : Stored → Chip → Mains → Run Work → Chip → Type 0
+Works done t mains r s = Says (lossOf (done .work)) (told done t) (mains .power) (mains .torn) r s
+
+-- a piece of storing behind work that took so many writes and tries, where the sums are numbers of 64 bits
+pub record Behind (writes tried : ℕ) (stored r : Stored) : Type 0 where
+  pub same : r .work ≡ stored .work
+  pub sum : writes + stored .writes < 2 ^ 64 → tried + stored .tried < 2 ^ 64 → (t : Chip) → told r t ≡ plus writes tried (told stored t)
+
+-- what a row of map bytes came to, as a piece of storing
+pub record Mapped (row : RowPut) (r : Stored) : Type 0 where
+  pub lost : (a : ℕ) → row .lost ≡ At a → r .work ≡ Stopped (PowerLost a)
+  pub whole : row .lost ≡ Nowhere → (t : Chip) → told r t ≡ seen (mapped (row .failed)) (row .writes) 0 t
+
+-- what a taking says that served so many slots: the bytes that hold the addresses taken as pointers, and the rest
+pub record Took (layout : Layout) (p : Places) (where-lost : Found) (count : ℕ) (bytes : List ℕ) (writes : ℕ) (t : Chip) (mains : Mains) (s : Chip) : Type 0 where
+  pub addresses : List ℕ
+  pub row : take (offsetOf count - 2) bytes ≡ pointerRow addresses 0
+  pub says : Says where-lost (seen (taken (served layout count) addresses) writes 0 t) (mains .power) (mains .torn) (untried (takeFrom (slots layout) 0 (wholeArea p) s)) s

@@ -1,10 +1,7 @@
 -- How a count is laid out on a chip. What depends on it is over the layout; the doors of this delivery are its instance at
 -- two copies.
 use Prim.Native.Nat.{ℕ, _+_, _*_}
-
-pub record Layout : Type 0 where
-  -- how often the count is kept
-  pub copies : ℕ
+pub use Rattle.counter.specs.declared.layout.Layout.{Layout}
 
 -- the layout of this delivery
 abbrev pub two : Layout

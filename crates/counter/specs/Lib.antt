@@ -9,4 +9,5 @@ pub mod Mended
 pub mod Store
 pub mod Opening
 pub mod Doors
+pub mod Trials
 pub mod Inside

@@ -7,7 +7,7 @@ use Rattle.cells.specs.Chip.{Chip}
 use Rattle.cells.specs.Run.{Run, still, _then_, _giving_}
 use Rattle.counter.specs.declared.verdict.Answer.{Answer}
 use Rattle.counter.specs.declared.verdict.Refusal.{Refusal}
-use Rattle.counter.specs.declared.verdict.Refusal.the-variants.{BadLength, BadPlaces, NoMark, UnsoundMap, BadCopy, TwoCodes, LostNibble, Apart, LastCount, NoSpare, MapByte}
+use Rattle.counter.specs.declared.verdict.Refusal.the-variants.{BadLength, BadPlaces, NoMark, UnsoundMap, BadCopy, TwoCodes, LostNibble, Apart, LastCount, NoSpare, MapByte, PowerLost}
 use Rattle.counter.specs.declared.verdict.Verdict.{Verdict}
 use Rattle.counter.specs.declared.verdict.Verdict.the-variants.{Good, Refused}
 use Rattle.counter.specs.declared.verdict.Work.{Work}
@@ -36,6 +36,7 @@ refusalOf (Apart lag) writes tried = answer 6 0 lag 0 0 0
 refusalOf LastCount writes tried = refused 7 0
 refusalOf (NoSpare slot) writes tried = answer 8 0 (pos 0) slot writes tried
 refusalOf (MapByte address) writes tried = answer 9 0 (pos 0) address writes tried
+refusalOf (PowerLost address) writes tried = refused 11 address
 
 -- the answer of a call that ended so
 unfoldable pub answerOf : Verdict → ℕ → ℕ → Answer

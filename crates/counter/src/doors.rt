@@ -6,14 +6,15 @@ ghost use Prim.Native.Nat.{_+_, _<_};
 ghost use lib.ListN.{length};
 ghost use denote.Ref.{ptr};
 ghost use Rattle.cells.specs.Chip.{chip};
-ghost use Rattle.cells.specs.Run.{seen, view};
+ghost use Rattle.cells.specs.Cut.{cut};
 ghost use Rattle.counter.specs.Layout.{two};
 ghost use Rattle.counter.specs.Places.{places};
 ghost use Rattle.counter.specs.Map.{mapIn, pointerOf, sound};
-ghost use Rattle.counter.specs.Verdict.{ending, answerOf, outcome, outcomeOf, _andThen_};
-ghost use Rattle.counter.specs.Store.{store};
+ghost use Rattle.counter.specs.Verdict.{ending, answerOf, outcome, outcomeOf};
 ghost use Rattle.counter.specs.Doors.{lastCount, beginning, reopening, stepping, partVerdict, mapPartOf, Opens, Steps, Reads, HandsBack};
+ghost use Rattle.counter.specs.Trials.{cutOutcome};
 ghost use Rattle.counter.specs.Inside.{fitted, standingOf, Holds};
+use super::layout::TWO;
 use super::map::Map;
 use super::mended::bits_of;
 use super::opening::open_first;
@@ -24,17 +25,16 @@ use super::soundness::plainly_sound;
 use super::standing::Standing;
 use super::standing::standing_of;
 use super::store::Stored;
-use super::store::behind;
-use super::store::is_stopped;
 use super::store::settle;
-use super::store::store_count;
 use super::store::store_next;
+use super::store::store_twice;
 use super::verdict::Answer;
 use super::verdict::Refusal;
 use super::verdict::Verdict;
 use super::verdict::Work;
 use super::verdict::answer_of;
 use super::verdict::refusal_of;
+use cells::mains::Mains;
 
 // What read answers: beside the answer, how many of the sixteen data cells were mended in each of the bits 0 to 7.
 pub struct ReadAnswer {
@@ -50,7 +50,7 @@ pub struct Part {
 }
 
 // The highest count of 32 bits.
-const LAST_COUNT: u32 = 4294967295;
+pub(crate) const LAST_COUNT: u32 = 4294967295;
 
 // Reads the count, and which bits were mended. It writes nothing.
 pub fn read(image: &[u8], m: usize, s: usize, e: usize) -> ReadAnswer
@@ -71,7 +71,7 @@ pub fn read(image: &[u8], m: usize, s: usize, e: usize) -> ReadAnswer
 }
 
 // The answer of a call that ends so when its storing is done.
-fn finished(verdict: Verdict, stored: Stored) -> Answer
+pub(crate) fn finished(verdict: Verdict, stored: Stored) -> Answer
     ensures { λ r. ⌜ r ≡ answerOf (ending verdict (stored .work)) (stored .writes) (stored .tried) ⌝ }
 {
     let work = stored.work;
@@ -82,11 +82,11 @@ fn finished(verdict: Verdict, stored: Stored) -> Answer
 }
 
 // A first opening, whose count is 0.
-fn begin(image: &mut [u8], lives: &mut [u32], p: Places) -> Answer
+pub(crate) fn begin(image: &mut [u8], lives: &mut [u32], p: Places, mains: Mains) -> Answer
     requires { ⌜ fitted two p (chip (now image) (now lives)) ≡ true ⌝ }
-    ensures { λ r. ⌜ outcome r (chip (now (image .exit)) (now (lives .exit))) ≡ outcomeOf (beginning two p (chip (now (image .entry)) (now (lives .entry)))) ⌝ }
+    ensures { λ r. ⌜ outcome r (chip (now (image .exit)) (now (lives .exit))) ≡ cutOutcome (cut (mains .power) (mains .torn) (beginning two p (chip (now (image .entry)) (now (lives .entry)))) (chip (now (image .entry)) (now (lives .entry)))) ⌝ }
 {
-    let stored = open_first(image, lives, p);
+    let stored = open_first(image, lives, p, TWO, mains);
     finished(Verdict::Good(0, 0), stored)
 }
 
@@ -121,26 +121,10 @@ pub fn open(image: &mut [u8], lives: &mut [u32], m: usize, s: usize, e: usize) -
     }
     let standing = standing_of(image, p);
     match standing {
-        Standing::Unmarked => begin(image, lives, p),
+        Standing::Unmarked => begin(image, lives, p, Mains::steady()),
         Standing::Unfit(why) => refusal_of(why, 0, 0),
         Standing::Marked => reopen(image, lives, p),
     }
-}
-
-// Two stores, one after the other: the count that was read, and the next.
-fn store_twice(image: &mut [u8], lives: &mut [u32], p: Places, count: u32) -> Stored
-    requires { ⌜ (fitted two p (chip (now image) (now lives)) ≡ true) × (sound two p (pointerOf (mapIn two p (now image))) ≡ true) × (count < lastCount) ⌝ }
-    ensures { λ r. ⌜ seen (r .work) (r .writes) (r .tried) (chip (now (image .exit)) (now (lives .exit))) ≡ view (store two p count (chip (now (image .entry)) (now (lives .entry))) andThen store two p (count + 1)) ⌝ }
-{
-    let settled = store_count(image, lives, p, count);
-    if is_stopped(settled) {
-        return settled;
-    }
-    behind(
-        settled.writes,
-        settled.tried,
-        store_count(image, lives, p, count + 1),
-    )
 }
 
 // A step from a count and a lag that were read: where all slots hold the count's codes, the first of the two
@@ -160,7 +144,7 @@ fn advance(
         let stored = store_next(image, lives, p, count);
         return finished(Verdict::Good(count + 1, lag), stored);
     }
-    let stored = store_twice(image, lives, p, count);
+    let stored = store_twice(image, lives, p, TWO, count, Mains::steady());
     finished(Verdict::Good(count + 1, lag), stored)
 }
 

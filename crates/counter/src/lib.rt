@@ -2,6 +2,7 @@
 // settings, the map, the spare cells, reading and what was mended, the verdict and its answer, storing, the first opening, and
 // the four doors.
 pub mod doors;
+pub mod layout;
 pub mod map;
 pub mod mended;
 pub mod opening;
@@ -11,4 +12,5 @@ pub mod soundness;
 pub mod spares;
 pub mod standing;
 pub mod store;
+pub mod trials;
 pub mod verdict;

@@ -1,10 +1,11 @@
 // The map (document 01, "The map"), handed on as the part of the image that starts at its place: its mark
 // and its pointers. Slot k stands for nibble k % 8 of copy k / 8.
 ghost use mathlib.Core.Path.{_≡_};
-ghost use Prim.Native.Nat.{ℕ, _+_, _%_, _≤_, _<_};
+ghost use Prim.Native.Nat.{ℕ, _+_, _/_, _%_, _≤_, _<_};
 ghost use lib.ListN.{length, getD, take, drop};
 ghost use Rattle.counter.specs.Layout.{two, slots, mapCells};
-ghost use Rattle.counter.specs.Map.{marked, offsetOf, pointerOf};
+ghost use Rattle.counter.specs.Map.{marked, partAt, offsetOf, pointerOf};
+use super::layout::Layout;
 use code::table::wide;
 
 // High cells hold nibbles 3 to 7, Low cells nibbles 0 to 2.
@@ -48,6 +49,16 @@ impl Map {
         let to = from + Map::SIZE;
         &image[from..to]
     }
+
+    // The cells of a map of any layout.
+    pub(crate) fn cells_for(self, layout: Layout, image: &[u8]) -> &[u8]
+        requires { ⌜ (self .place + mapCells layout ≤ length (now image)) × (length (now image) ≤ 4096) ⌝ }
+        ensures { λ r. ⌜ now r ≡ take (mapCells layout) (drop (self .place) (now (image .entry))) ⌝ }
+    {
+        let from = self.place;
+        let to = from + (Map::FIRST_COPY + Map::COPY_SIZE * layout.copies);
+        &image[from..to]
+    }
 }
 
 // Whether both bytes of the mark are there.
@@ -66,7 +77,7 @@ pub(crate) fn is_marked(map: &[u8]) -> bool
 
 // Where a slot's pointer starts in the map.
 pub(crate) fn offset_of(slot: usize) -> usize
-    requires { ⌜ slot < slots two ⌝ }
+    requires { ⌜ slot < 4096 ⌝ }
     ensures { λ r. ⌜ r ≡ offsetOf slot ⌝ }
 {
     let nibble = slot % 8;
@@ -79,7 +90,7 @@ pub(crate) fn offset_of(slot: usize) -> usize
 
 // A slot's pointer: two bytes, low byte first, for a Low one, and one for a High one.
 pub(crate) fn pointer_of(map: &[u8], slot: usize) -> usize
-    requires { ⌜ (length (now map) ≡ mapCells two) × (slot < slots two) ⌝ }
+    requires { ⌜ (slot < 4096) × (partAt two (slot / 8 + 1) ≤ length (now map)) ⌝ }
     ensures { λ r. ⌜ (r ≡ pointerOf (now (map .entry)) slot) × (r < 65536) × (3 ≤ slot % 8 → r < 256) ⌝ }
 {
     if slot % 8 < 3 {

@@ -2,11 +2,11 @@
 ghost use mathlib.Core.Path.{_≡_};
 ghost use Prim.Native.Nat.{_+_, _≤_, _<_};
 ghost use lib.ListN.{length};
-ghost use Rattle.counter.specs.Layout.{two, mapCells};
+ghost use Rattle.counter.specs.Layout.{mapCells};
 ghost use Rattle.counter.specs.Slots.{kindOf};
 ghost use Rattle.counter.specs.Map.{pointerOf};
 ghost use Rattle.counter.specs.Spares.{wholeArea, narrow, gapOf, mayTry, wayOf, nextOf, sparesOf};
-use super::map::Map;
+use super::layout::Layout;
 use super::map::pointer_of;
 use super::places::Places;
 use cells::row::Way;
@@ -106,13 +106,14 @@ pub(crate) fn may_try(p: Places, slot: usize, g: Gap, a: usize) -> bool
 }
 
 // The gap that the pointers of all slots leave.
-pub(crate) fn gap_of(map: &[u8], p: Places) -> Gap
-    requires { ⌜ (length (now map) ≡ mapCells two) × (p .end < 4096) ⌝ }
-    ensures { λ r. ⌜ r ≡ gapOf two p (pointerOf (now (map .entry))) ⌝ }
+pub(crate) fn gap_of(map: &[u8], p: Places, layout: Layout) -> Gap
+    requires { ⌜ (length (now map) ≡ mapCells layout) × (length (now map) ≤ 4096) × (p .end < 4096) ⌝ }
+    ensures { λ r. ⌜ r ≡ gapOf layout p (pointerOf (now (map .entry))) ⌝ }
 {
+    let slots = 8 * layout.copies;
     let mut gap = whole_area(p);
     let mut slot = 0;
-    while slot < Map::SLOTS {
+    while slot < slots {
         gap = narrowed(slot, pointer_of(map, slot), gap);
         slot += 1;
     }

@@ -21,6 +21,8 @@ pub enum Refusal {
     NoSpare(usize),
     // its address
     MapByte(usize),
+    // the address of the torn write
+    PowerLost(usize),
 }
 
 // How a call ended: with a count and the lag that was read, or refused.
@@ -96,6 +98,7 @@ pub(crate) fn refusal_of(why: Refusal, writes: usize, tried: usize) -> Answer
             writes,
             tried,
         },
+        Refusal::PowerLost(address) => refused(11, address),
     }
 }
 

@@ -11,9 +11,12 @@ use Rattle.counter.specs.declared.verdict.Work.{Work}
 use Rattle.counter.specs.Verdict.{outcome, outcomeOf, _endingIn_, _andThen_}
 use Rattle.counter.specs.Store.{store}
 use Rattle.counter.specs.Doors.{stepping}
+use Rattle.counter.proofs.Behind.{works-steady}
+use Rattle.counter.proofs.StoreCosts.{twice-few}
 use Rattle.counter.proofs.NextStores.{held-next}
 use Rattle.counter.proofs.DoorViews.{outcome-ending}
 use borrow.Author.Needs.{needs}
+use native.Mathlib.Omega.{arith}
 use Rattle.counter.specs.Layout.{two}
 use Rattle.counter.proofs.doors.advance.Statement.{statement}
 use Rattle.counter.proofs.doors.advance.Tie as tie
@@ -40,12 +43,15 @@ returns c =
 returns-2 : tie.Need-returns-2
 returns-2 c =
     let call = c .before .before .before .before .before in
-    let other = call .before .before .before in
-    let s = other .before .before .before in
+    let s = call .before .before .before .before .before .before .before in
+    let p = s .args .p in
+    let count = s .args .count in
     let lent = chip (s .args .image .now) (s .args .lives .now) in
+    let few = twice-few two p count (count + 1) lent (s .pre .0) (s .pre .1) in
+    let said = works-steady (call .store-twice .ensures) (omega (arith, few, call .before .steady .ensures .0)) in
     ap (λ (a : Answer). outcome a (chip (call .store-twice .last .0) (call .store-twice .last .1 .0))) (c .finished2 .ensures)
-    ∙ outcome-ending (store two (s .args .p) (s .args .count) lent andThen store two (s .args .p) (s .args .count + 1)) (call .store-twice .ensures) _
-    ∙ ap (λ (z : ℤ). outcomeOf (stepping two (s .args .p) (s .args .count) z lent)) (toZ-ofZ (s .fits .lag))
+    ∙ outcome-ending (store two p count lent andThen store two p (count + 1)) said _
+    ∙ ap (λ (z : ℤ). outcomeOf (stepping two p count z lent)) (toZ-ofZ (s .fits .lag))
 
 pub advance-spec : {M : Type 1} → statement M
 advance-spec =
@@ -57,6 +63,7 @@ advance-spec =
     (λ c. search needs)
     (λ c. search needs)
     returns
+    (λ c κs. search needs)
     (λ c κs. search needs)
     (λ c. search needs)
     (λ c κs. search needs)

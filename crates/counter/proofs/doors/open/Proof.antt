@@ -2,10 +2,14 @@
 use mathlib.Core.Path.{sym, ap, _∙_}
 use Rattle.cells.specs.Chip.{chip}
 use Rattle.counter.specs.declared.verdict.Answer.{Answer}
+use Rattle.counter.specs.Places.{places}
 use Rattle.counter.specs.Verdict.{outcome, outcomeOf}
-use Rattle.counter.specs.Doors.{openOf}
-use Rattle.counter.proofs.DoorViews.{outcome-refused, chip-fitted, open-unpaired, open-unfit, open-unmarked, open-marked}
+use Rattle.counter.specs.Doors.{beginning, openOf}
+use Rattle.counter.proofs.DoorViews.{outcome-refused, cut-steady, chip-fitted, open-unpaired, open-unfit, open-unmarked, open-marked}
 use borrow.Author.Needs.{needs}
+use native.Mathlib.Omega.{arith}
+use Rattle.counter.proofs.Fitted.{fitted-ready}
+use Rattle.counter.proofs.OpeningCosts.{opening-few}
 use Rattle.counter.specs.Layout.{two}
 use Rattle.counter.proofs.doors.open.Statement.{statement}
 use Rattle.counter.proofs.doors.open.Tie as tie
@@ -19,8 +23,9 @@ returns c =
 
 begin-requires : tie.Need-begin-requires
 begin-requires c κs =
-    let stands = c .before .before .before .before in
-    chip-fitted two _ _ (stands .before .before .if1 .left) (sym (stands .standing-of .ensures) ∙ c .before .before .enum-told .given .1)
+    let told = c .before .before .before in
+    let stands = told .before .before in
+    chip-fitted two _ _ (stands .before .before .if1 .left) (sym (stands .standing-of .ensures) ∙ told .enum-told .given .1)
 
 reopen-requires : tie.Need-reopen-requires
 reopen-requires c κs =
@@ -31,10 +36,17 @@ returns-2 : tie.Need-returns-2
 unfolding openOf
 returns-2 c =
     let begun = c .before .before .before .before in
-    let told = begun .before .before .before in
+    let told = begun .before .before .before .before in
     let stands = told .before .before in
+    let unmarked = sym (stands .standing-of .ensures) ∙ told .enum-told .given .1 in
+    let paired = stands .before .before .if1 .left in
+    let s = stands .before .before .before .before .before .args in
+    let p = places (s .m) (s .s) (s .e) in
+    let lent = chip (s .image .now) (s .lives .now) in
+    let few = opening-few {layout = two} {p = p} {s = lent} (fitted-ready (chip-fitted two p lent paired unmarked)) in
     begun .begin .ensures
-    ∙ ap outcomeOf (sym (open-unmarked two _ _ (stands .before .before .if1 .left) (sym (stands .standing-of .ensures) ∙ told .enum-told .given .1)))
+    ∙ cut-steady _ _ (beginning two p lent) lent (omega (arith, few, begun .before .steady .ensures .0))
+    ∙ ap outcomeOf (sym (open-unmarked two _ _ paired unmarked))
 
 returns-3 : tie.Need-returns-3
 unfolding openOf
@@ -61,6 +73,7 @@ open-spec =
     returns
     (λ c κs. search needs)
     (λ c. search needs)
+    (λ c κs. search needs)
     begin-requires
     (λ c. search needs)
     (λ c κs. search needs)

@@ -1,7 +1,5 @@
 -- `doors::step` keeps its promise.
-use Prim.Native.Nat.{ℕ, _^_, _<_}
 use mathlib.Core.Path.{_≡_, sym, ap, _∙_}
-use native.Mathlib.Omega.{arith}
 use lib.IntN.{ℤ}
 use mir.Syntax.{w64}
 use mir.Facts.{toZ-ofZ}
@@ -10,8 +8,8 @@ use Rattle.counter.specs.declared.verdict.Answer.{Answer}
 use Rattle.counter.specs.declared.verdict.Verdict.the-variants.{Good}
 use Rattle.counter.specs.Places.{places}
 use Rattle.counter.specs.Verdict.{outcome, outcomeOf}
-use Rattle.counter.specs.Doors.{lastCount, chipVerdict, stepping, stepOf}
-use Rattle.counter.proofs.GoodVerdicts.{verdict-good}
+use Rattle.counter.specs.Doors.{chipVerdict, stepping, stepOf}
+use Rattle.counter.proofs.GoodVerdicts.{verdict-good, below-last}
 use Rattle.counter.proofs.DoorViews.{outcome-refused, chip-verdict, good-settled, step-unpaired, step-refused, step-last, step-on}
 use borrow.Author.Needs.{needs}
 use Rattle.counter.specs.Layout.{two}
@@ -46,15 +44,11 @@ returns-2 c =
     ap (λ (a : Answer). outcome a (chip (s .image .now) (s .lives .now))) (c .refusal-of2 .ensures)
     ∙ outcome-refused (step-last two _ _ _ _ (good told) (c .before .if2 .taken))
 
--- a count of 32 bits that is not the last
-below : {c : ℕ} → c < 2 ^ 32 → (c ≡ lastCount → ⊥) → c < lastCount
-below small other = omega arith
-
 advance-requires : tie.Need-advance-requires
 advance-requires c κs =
     let told = c .before .before .before in
     let fit = good-settled two _ _ (good told) in
-    (fit .0, fit .1, below (verdict-good two _ _ (good told) .1 .small) (c .before .before .if2 .left), λ e. told .before .before .before .verdict-of .ensures .1 e _ _ (told .before .verdict .given .1))
+    (fit .0, fit .1, below-last (verdict-good two _ _ (good told) .1 .small) (c .before .before .if2 .left), λ e. told .before .before .before .verdict-of .ensures .1 e _ _ (told .before .verdict .given .1))
 
 returns-3 : tie.Need-returns-3
 unfolding stepOf

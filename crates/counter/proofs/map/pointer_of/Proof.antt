@@ -3,15 +3,15 @@ use Prim.Native.Nat.{_+_, _≤_}
 use mathlib.Core.Path.{_≡_, sym}
 use borrow.Author.Needs.{needs}
 use native.Mathlib.Omega.{arith}
+use lib.ListN.{length}
 use Rattle.counter.specs.Map.{byteAt, offsetOf}
-use Rattle.counter.specs.Layout.{two, mapCells}
-use Rattle.counter.proofs.Offsets.{low-inside, high-inside, pointer-low, pointer-high}
+use Rattle.counter.proofs.Offsets.{offset-low, offset-high, pointer-low, pointer-high}
 use Rattle.counter.proofs.map.pointer_of.Statement.{statement}
 use Rattle.counter.proofs.map.pointer_of.Tie as tie
 
--- a Low pointer's two bytes are inside the map
-inside : (c : tie.Then1) → offsetOf (c .before .before .args .slot) + 2 ≤ mapCells two
-inside c = low-inside two _ (c .before .before .pre .1) (c .if1 .taken)
+-- a Low pointer's two bytes are inside its copy's part of the map
+inside : (c : tie.Then1) → offsetOf (c .before .before .args .slot) + 2 ≤ length (c .before .before .args .map .now)
+inside c = let s = c .before .before in omega (arith, offset-low (s .args .slot) (c .if1 .taken), s .pre .1)
 
 shared-slice-read-wide : tie.Need-shared-slice-read-wide
 shared-slice-read-wide c = omega (arith, inside (c .before .before))
@@ -36,7 +36,7 @@ returns c =
 shared-slice-read-wide-3 : tie.Need-shared-slice-read-wide-3
 shared-slice-read-wide-3 c =
     let s = c .before .before .before .before in
-    omega (arith, high-inside two (s .args .slot) (s .pre .1) (c .before .before .if1 .left))
+    omega (arith, offset-high (s .args .slot) (c .before .before .if1 .left), s .pre .1)
 
 returns-2 : tie.Need-returns-2
 returns-2 c =

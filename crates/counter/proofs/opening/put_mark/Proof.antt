@@ -1,11 +1,9 @@
 -- `opening::put_mark` meets its contract: the mark is a row of two bytes.
-use mathlib.Core.Path.{sym}
 use borrow.Author.Needs.{needs}
 use native.Mathlib.Omega.{arith}
-use Rattle.counter.specs.Layout.{two}
 use Rattle.counter.proofs.Ready.{ready-placed}
 use Rattle.counter.proofs.Fitted.{fitted-ready}
-use Rattle.counter.proofs.OpeningViews.{mark-said}
+use Rattle.counter.proofs.OpeningViews.{mark-works}
 use Rattle.counter.proofs.opening.put_mark.Statement.{statement}
 use Rattle.counter.proofs.opening.put_mark.Tie as tie
 
@@ -18,7 +16,8 @@ put-row-requires c κs =
 returns : tie.Need-returns
 returns c =
     let put = c .before .before .before .before .before in
-    rw (c .mapped .ensures .0, c .mapped .ensures .1, c .mapped .ensures .2) (sym (mark-said two _ _ (put .put-row .ensures)))
+    let s = put .before .before .before .before .before .before .args in
+    mark-works (s .layout) (s .p) (put .put-row .ensures .says) (c .mapped .ensures)
 
 pub put-mark-spec : {M : Type 1} → statement M
 put-mark-spec =

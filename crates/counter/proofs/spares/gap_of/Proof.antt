@@ -1,5 +1,5 @@
 -- `spares::gap_of` meets its contract: the gap is the one that the slots passed leave.
-use Prim.Native.Nat.{_-_, _≤_}
+use Prim.Native.Nat.{_-_, _*_, _≤_}
 use mathlib.Core.Path.{_≡_, ap, _∙_}
 use borrow.Author.Needs.{needs}
 use native.Mathlib.Omega.{arith}
@@ -11,11 +11,11 @@ use Rattle.counter.proofs.spares.gap_of.Statement.{statement}
 use Rattle.counter.proofs.spares.gap_of.Tie as tie
 
 abbrev Inv-loop : tie.InvT-loop
-Inv-loop map gap₀ slot₀ gap slot =
-    record { most : slot ≤ 16; left : (p : Places) → gap₀ ≡ wholeArea p → gap ≡ gapTo slot p (pointerOf map) }
+Inv-loop map slots gap₀ slot₀ gap slot =
+    record { most : slot ≤ slots; left : (p : Places) → gap₀ ≡ wholeArea p → gap ≡ gapTo slot p (pointerOf map) }
 
 abbrev μ-loop : tie.MeasureT-loop
-μ-loop map gap₀ slot₀ gap slot = 16 - slot
+μ-loop map slots gap₀ slot₀ gap slot = slots - slot
 
 loop-holds : tie.Need-loop-holds Inv-loop μ-loop
 unfolding gapTo
@@ -33,8 +33,9 @@ returns : tie.Need-returns Inv-loop μ-loop
 unfolding gapOf
 returns c =
     let loop = c .before .loop in
-    let end : loop .slot ≡ 16 = omega arith in
-    loop .inv .left _ (c .before .before .whole-area .ensures) ∙ ap (λ n. gapTo n (c .before .before .before .before .args .p) (pointerOf (c .before .before .before .before .args .map .now))) end
+    let start = c .before .before .before .before .before .args in
+    let end : loop .slot ≡ 8 * start .layout .copies = omega arith in
+    loop .inv .left _ (c .before .before .whole-area .ensures) ∙ ap (λ n. gapTo n (start .p) (pointerOf (start .map .now))) end
 
 pub gap-of-spec : {M : Type 1} → statement M
 gap-of-spec =
@@ -42,9 +43,10 @@ gap-of-spec =
     (tie.spec
     Inv-loop
     μ-loop
+    (λ c. omega arith)
     (λ c κs. search needs)
     loop-holds
-    (λ c κs. search needs)
+    (λ c κs. (omega arith, omega arith))
     narrowed-requires
     (λ c. search needs)
     (λ c. search needs)

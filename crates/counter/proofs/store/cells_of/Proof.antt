@@ -26,10 +26,10 @@ long c =
     rw (map c) (simp (length-take, length-drop) (omega arith))
 
 pointer-of-requires : tie.Need-pointer-of-requires
-pointer-of-requires c κs = let h = c .before .before .before .pre .1 in (long c, omega arith)
+pointer-of-requires c κs = let h = c .before .before .before .pre .1 in (omega arith, omega (arith, long c))
 
 pointer-of-requires-2 : tie.Need-pointer-of-requires-2
-pointer-of-requires-2 c κs = let h = c .before .before .before .before .pre .1 in (long (c .before), omega arith)
+pointer-of-requires-2 c κs = let h = c .before .before .before .before .pre .1 in (omega arith, omega (arith, long (c .before)))
 
 -- a pointer of the cells is the map's
 pointer : (c : tie.After-cells) (k : ℕ) → let s = c .before .before .before .args in pointerOf (c .cells .result .now) k ≡ pointerOf (mapIn two (s .p) (s .image .now)) k

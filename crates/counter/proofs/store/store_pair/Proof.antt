@@ -140,21 +140,17 @@ stored-second : (c : tie.After-store-at2) → let other = c .before .before .bef
     seen (call .result .work) (call .result .writes) (call .result .tried) (chip (call .last .0) (call .last .1 .0)) ≡ view (storeSlot two (s .args .p) (8 + s .args .nibble) (s .args .byte) (chip (first other .move-behind .last .0) (first other .move-behind .last .1 .0)))
 stored-second c = c .store-at2 .ensures ∙ simp zero-add
 
-behind-requires : tie.Need-behind-requires
-behind-requires c κs =
-    let call = c .before .before .before .before in
-    let other = call .before .before .before in
-    let one = slot-few (fitted-ready (start (failed (unheld (first other))) .pre .0)) _ _ (moved-first (first other)) in
-    let second = slot-few (fitted-ready (settled other .0)) _ _ (stored-second call) in
-    (omega arith, omega arith, omega arith, omega arith)
-
 same-length-5 : tie.Need-same-length-5
 same-length-5 c = let move = first (second c .before .before .before) in omega arith
 
 returns-3 : tie.Need-returns-3
 returns-3 c =
-    let other = second c .before .before .before in
-    c .behind .ensures _ ∙ behind-done (storeSlot two _ _ _ _) (storeSlot two _ _ _) (moved-first (first other)) (done other) (stored-second (second c))
+    let call = second c in
+    let other = call .before .before .before in
+    let one = slot-few (fitted-ready (start (failed (unheld (first other))) .pre .0)) _ _ (moved-first (first other)) in
+    let two-few = slot-few (fitted-ready (settled other .0)) _ _ (stored-second call) in
+    c .behind .ensures .sum (omega (arith, one, two-few)) (omega (arith, one, two-few)) _
+    ∙ behind-done (storeSlot two _ _ _ _) (storeSlot two _ _ _) (moved-first (first other)) (done other) (stored-second call)
 
 pub store-pair-spec : {M : Type 1} → statement M
 store-pair-spec =
@@ -174,7 +170,7 @@ store-pair-spec =
     returns-2
     add-store-at-2
     store-at-requires-2
-    behind-requires
+    (λ c κs. search needs)
     same-length-5
     (λ c. search needs)
     returns-3)

@@ -22,7 +22,7 @@ returns : tie.Need-returns
 unfolding trySpares
 returns c =
     let walked = c .before .before .before .before in
-    rw (← walked .before .before .before .spares-of .ensures, ← walked .before .before .way-of .ensures, ← walked .before .next-of .ensures) (walked .walk .ensures)
+    rw (← walked .before .before .before .spares-of .ensures, ← walked .before .before .way-of .ensures, ← walked .before .next-of .ensures) (walked .walk .ensures .says)
 
 pub try-spares-spec : {M : Type 1} → statement M
 try-spares-spec =

@@ -43,6 +43,8 @@ refusal-of-spec =
     (λ c κs. search needs)
     (λ c. search needs)
     (λ c. search needs)
+    (λ c. search needs)
+    (λ c κs. search needs)
     (λ c. c .refused .ensures ∙ known _ _ _ (c .before .enum-told .given .1))
     (λ c. c .refused2 .ensures ∙ known _ _ _ (c .before .enum-told2 .given .1))
     (λ c. c .refused3 .ensures ∙ known _ _ _ (c .before .enum-told3 .given .1))
@@ -53,4 +55,5 @@ refusal-of-spec =
     returns-8
     (λ c. c .refused8 .ensures ∙ known _ _ _ (c .before .enum-told6 .given .1))
     (λ c. known _ _ _ (c .before .why4 .given .1))
-    (λ c. known _ _ _ (c .before .why5 .given .1)))
+    (λ c. known _ _ _ (c .before .why5 .given .1))
+    (λ c. c .refused9 .ensures ∙ known _ _ _ (c .before .before .why6 .given .1)))
