@@ -1,6 +1,7 @@
 -- Pointers and mark put where every cell of the map has life: done, and no cell is asked more than one write.
 --   Calmly                    map bytes put so, in a place
 --   calm-points               the pointers of the slots from k on
+--   points-calm               those of all slots
 --   calm-maps                 all pointers, then the mark
 use Prim.Native.Nat.{ℕ, _+_, _≤_, _<_}
 use mathlib.Core.Path.{_≡_, ap, _∙_}
@@ -20,13 +21,14 @@ use Rattle.counter.specs.declared.verdict.Work.the-variants.{Done}
 use Rattle.counter.specs.Map.{markBytes, offsetOf}
 use Rattle.counter.specs.Verdict.{_andThen_}
 use Rattle.counter.specs.Opening.{putPointers, putMark}
-use Rattle.counter.specs.Inside.{pointerRow}
+use Rattle.counter.specs.Inside.{pointerRow, mapRow}
 use Rattle.cells.proofs.AskedOnce.{asked-outside, Once, once-append, once-row}
-use Rattle.counter.specs.Layout.{Layout, slots, mapCells}
+use Rattle.counter.specs.declared.layout.Layout.{Layout}
+use Rattle.counter.specs.Layout.{slots, mapCells}
 use Rattle.counter.proofs.Offsets.{offset-first, offset-most}
 use Rattle.counter.proofs.Ready.{Ready, InMap, ready-kept}
 use Rattle.counter.proofs.Pointers.{done-mapped}
-use Rattle.counter.proofs.PointerRows.{mapRow, pointers-row, mark-row, row-length}
+use Rattle.counter.proofs.PointerRows.{pointers-row, mark-row, row-length}
 use Rattle.counter.proofs.Stores.{done-then}
 use Rattle.counter.proofs.Openings.{PointsLaws, points-laws, map-laws}
 
@@ -65,7 +67,7 @@ module _ {layout : Layout} {p : Places} {s : Chip} (ready : Ready layout p s) (a
   abbrev pointing : Run Work
   pointing = putPointers addresses 0 layout p s
 
-  points-calm : Calmly (Behind (offsetOf 0) p) pointing
+  pub points-calm : Calmly (Behind (offsetOf 0) p) pointing
   points-calm = calm-points addresses 0 s ready (omega arith) (λ c from to. live c (omega arith) to)
 
   points : PointsLaws layout p addresses 0 s pointing

@@ -1,22 +1,26 @@
--- Addresses taken where every cell has life and none reads 80: each slot takes the next address, which is written once.
+-- Addresses taken where every cell has life: each slot takes the next address, which is written once unless it reads 80.
 --   highs                     how many of the slots below k are High
 --   Roomy, roomy-whole        a gap has room for the n slots from k on; the whole area has it for all
---   Untouched                 every cell of a gap has life and reads another byte than 80
---   CalmTake, calm-take       the taking is done, each address asked one write and no cell more than one
+--   LiveGap                   every cell of a gap has life
+--   Unwritten                 none reads 80
+--   CalmTake, calm-take       the taking is done, no cell asked more than one write and, where none reads 80, each address just one
 use Prim.Native.Nat.{ℕ, zero, suc, _+_, _-_, _*_, _/_, _%_, _≤_, _<_}
 use mathlib.Core.Path.{_≡_, refl, sym, ap, _∙_}
-use mathlib.Core.List.{[], _∷_}
+use mathlib.Core.Bool.{Bool}
+use mathlib.Core.List.{_∷_, _++_}
 use native.Mathlib.Decide.{decLt}
 use native.Mathlib.Omega.{arith}
 use lib.ListN.{getD}
 use Rattle.code.specs.Codes.{codeOf}
 use Rattle.cells.specs.declared.row.Found.{Found}
 use Rattle.cells.specs.declared.row.Found.the-variants.{At}
-use Rattle.cells.specs.Chip.{Chip, cellAt, lifeAt, writeAt, Paired, Kept}
+use Rattle.cells.specs.Chip.{Chip, cellAt, lifeAt, Paired}
 use Rattle.cells.specs.Run.{Run, write, run, _then_, _giving_}
-use Rattle.cells.specs.Log.{askedOf, Every.none, Every.more}
-use Rattle.cells.proofs.Writes.{kept-paired, write-laws}
-use Rattle.cells.proofs.Logs.{asked-here, asked-elsewhere, asked-most}
+use Rattle.cells.specs.Log.{askedOf}
+use Rattle.cells.specs.Put.{putAt}
+use Rattle.cells.proofs.Writes.{kept-paired}
+use Rattle.cells.proofs.Logs.{asked-here, asked-elsewhere}
+use Rattle.cells.proofs.Puts.{PutLaws, put-laws}
 use Rattle.counter.specs.declared.map.Kind.{Kind}
 use Rattle.counter.specs.declared.places.Places.{Places}
 use Rattle.counter.specs.declared.spares.Gap.{Gap}
@@ -25,12 +29,13 @@ use Rattle.counter.specs.Slots.{kindOf}
 use Rattle.counter.specs.Spares.{wholeArea, narrow, nextOf, sparesOf}
 use Rattle.counter.specs.Store.{trySpares}
 use Rattle.counter.specs.Opening.{Taken, taken, takeFrom}
-use Rattle.cells.proofs.AskedOnce.{Once, once-none, once-append, asked-outside}
-use Rattle.counter.specs.Layout.{Layout, slots}
+use Rattle.cells.proofs.AskedOnce.{Once, once-none, once-append, once-put, asked-outside}
+use Rattle.counter.specs.declared.layout.Layout.{Layout}
+use Rattle.counter.specs.Layout.{slots}
 use Rattle.counter.proofs.Settings.{Placed}
 use Rattle.counter.proofs.Gaps.{Free}
 use Rattle.counter.proofs.Takes.{InGap, TakeLaws, narrow-inside, narrow-other, take-landing, take-laws}
-use Rattle.counter.proofs.NextSpares.{Next, next-free, low-next, high-next, spares-written}
+use Rattle.counter.proofs.NextSpares.{Next, next-free, low-next, high-next, spares-alive}
 use Rattle.counter.proofs.WorkSteps.{whole-gap, take-none}
 
 abbrev pub highs : ℕ → ℕ
@@ -72,80 +77,89 @@ module _ (n k : ℕ) (g : Gap) (room : Roomy (suc n) k g) where
           let reach = room .reach in
           next-roomy (high-next k g (omega arith) (omega arith) (omega arith)) (record { cells = omega arith; reach = rw sum (omega arith) })
 
--- every cell of a gap has life and reads another byte than 80
-pub record Untouched (g : Gap) (s : Chip) : Type 0 where
+pub record LiveGap (g : Gap) (s : Chip) : Type 0 where
   pub paired : Paired s
   pub alive : (a : ℕ) → InGap g a → 1 ≤ lifeAt s a
-  pub other : (a : ℕ) → InGap g a → cellAt s a ≡ codeOf 0 → ⊥
 
-pub record CalmTake (n : ℕ) (r : Run Taken) : Type 0 where
+abbrev pub Unwritten : Gap → Chip → Type 0
+Unwritten g s = (a : ℕ) → InGap g a → cellAt s a ≡ codeOf 0 → ⊥
+
+pub record CalmTake (n : ℕ) (g : Gap) (s : Chip) (r : Run Taken) : Type 0 where
   pub done : r .answer .work ≡ Done
-  pub asked : (j : ℕ) → j < n → askedOf (getD (r .answer .addresses) j 0) (r .log) ≡ 1
+  pub asked : Unwritten g s → (j : ℕ) → j < n → askedOf (getD (r .answer .addresses) j 0) (r .log) ≡ 1
   pub once : Once (r .log)
 
-module _ (n k : ℕ) (g : Gap) (s : Chip) (untouched : Untouched g s) (next : NextFree (kindOf k) n k g) where
-  -- the address that slot k takes, the gap that it leaves, and the chip then
+module _ (n k : ℕ) (g : Gap) (s : Chip) (live : LiveGap g s) (next : NextFree (kindOf k) n k g) where
+  -- the address that slot k takes, the gap that it leaves, and the put there
   abbrev a : ℕ
   a = nextOf (kindOf k) g
 
   abbrev left : Gap
   left = narrow (kindOf k) a g
 
-  abbrev t : Chip
-  t = writeAt a (codeOf 0) s
+  abbrev first : Run Bool
+  first = putAt a (codeOf 0) s
 
   in-gap : InGap g a
   in-gap = record { from = next .free .from; to = next .free .to }
 
-  spares-are : trySpares k g (codeOf 0) s ≡ run (At a) (write a (codeOf 0) ∷ []) 1 t
-  spares-are = let some = next .some in spares-written k g (codeOf 0) s (omega arith) (untouched .paired) (untouched .alive a in-gap) (untouched .other a in-gap)
+  spares-are : trySpares k g (codeOf 0) s ≡ run (At a) (first .log) 1 (first .after)
+  spares-are = let some = next .some in spares-alive k g (codeOf 0) s (omega arith) (live .paired) (live .alive a in-gap)
 
-  kept : Kept (λ c. c ≡ a) s t
-  kept = write-laws a (codeOf 0) s .kept
+  put : PutLaws a (codeOf 0) s
+  put = put-laws a (codeOf 0) s (live .paired)
 
-  left-untouched : Untouched left t
-  left-untouched =
+  -- the cells of the gap that is left are other ones
+  left-apart : (c : ℕ) → InGap left c → c ≡ a → ⊥
+  left-apart c i e = narrow-other (kindOf k) g a (rw e at i)
+
+  left-inside : (c : ℕ) → InGap left c → InGap g c
+  left-inside c i = narrow-inside (kindOf k) g a c (next .free) i
+
+  left-live : LiveGap left (first .after)
+  left-live =
       record {
-        paired = kept-paired kept (untouched .paired);
-        alive = λ c i. rw (kept .life c (apart c i)) (untouched .alive c (inside c i));
-        other = λ c i e. untouched .other c (inside c i) (sym (kept .cell c (apart c i)) ∙ e);
+        paired = kept-paired (put .kept) (live .paired);
+        alive = λ c i. rw (put .kept .life c (left-apart c i)) (live .alive c (left-inside c i));
       }
-    where
-      apart : (c : ℕ) → InGap left c → c ≡ a → ⊥
-      apart c i e = narrow-other (kindOf k) g a (rw e at i)
 
-      inside : (c : ℕ) → InGap left c → InGap g c
-      inside c i = narrow-inside (kindOf k) g a c (next .free) i
+  left-unwritten : Unwritten g s → Unwritten left (first .after)
+  left-unwritten other c i e = other c (left-inside c i) (sym (put .kept .cell c (left-apart c i)) ∙ e)
 
   abbrev rest : Run Taken
-  rest = takeFrom n (k + 1) left t
+  rest = takeFrom n (k + 1) left (first .after)
 
-  take-is : takeFrom (suc n) k g s ≡ run (At a) (write a (codeOf 0) ∷ []) 1 t then (rest giving taken (rest .answer .work) (a ∷ rest .answer .addresses))
+  take-is : takeFrom (suc n) k g s ≡ run (At a) (first .log) 1 (first .after) then (rest giving taken (rest .answer .work) (a ∷ rest .answer .addresses))
   take-is = take-landing n k g s a (ap (λ (r : Run Found). r .answer) spares-are) ∙ rw spares-are
 
-  module _ (calm : CalmTake n rest) where
-    takes : TakeLaws n (k + 1) left t rest
-    takes = take-laws n (k + 1) left t (left-untouched .paired)
+  module _ (calm : CalmTake n left (first .after) rest) where
+    takes : TakeLaws n (k + 1) left (first .after) rest
+    takes = take-laws n (k + 1) left (first .after) (left-live .paired)
 
     -- the rest is asked of other cells
-    asked-more : (j : ℕ) → j < suc n → askedOf (getD (a ∷ rest .answer .addresses) j 0) (write a (codeOf 0) ∷ rest .log) ≡ 1
-    asked-more zero l = asked-here a a _ (rest .log) (omega arith) (omega arith) ∙ ap (λ (x : ℕ). 1 + x) (asked-outside a (takes .within .places) (narrow-other (kindOf k) g a))
-    asked-more (suc j) l =
-        let c = getD (rest .answer .addresses) j 0 in
-        let i : InGap left c = takes .all (calm .done) .inside j (omega arith) in
-        asked-elsewhere c c _ (rest .log) (λ from to. let e : c ≡ a = omega arith in narrow-other (kindOf k) g a (rw e at i)) ∙ calm .asked j (omega arith)
+    asked-more : Unwritten g s → (j : ℕ) → j < suc n → askedOf (getD (a ∷ rest .answer .addresses) j 0) (first .log ++ rest .log) ≡ 1
+    asked-more other j l =
+        let writes = ap (λ (r : Run Bool). r .log) (put .taken (other a in-gap) (live .alive a in-gap)) in
+        rw writes (go j l)
+      where
+        go : (j : ℕ) → j < suc n → askedOf (getD (a ∷ rest .answer .addresses) j 0) (write a (codeOf 0) ∷ rest .log) ≡ 1
+        go zero l = asked-here a a _ (rest .log) (omega arith) (omega arith) ∙ ap (λ (x : ℕ). 1 + x) (asked-outside a (takes .within .places) (narrow-other (kindOf k) g a))
+        go (suc j) l =
+            let c = getD (rest .answer .addresses) j 0 in
+            let i : InGap left c = takes .all (calm .done) .inside j (omega arith) in
+            asked-elsewhere c c _ (rest .log) (λ from to. left-apart c i (omega arith)) ∙ calm .asked (left-unwritten other) j (omega arith)
 
-    once-more : Once (write a (codeOf 0) ∷ rest .log)
-    once-more =
-        once-append {P = λ c. c ≡ a} (more {w = write a (codeOf 0)} refl none) (takes .within .places)
-        (λ c e i. narrow-other (kindOf k) g a (rw e at i))
-        (λ c. asked-most c c (write a (codeOf 0) ∷ [])) (calm .once)
+    more-calm : CalmTake (suc n) g s (takeFrom (suc n) k g s)
+    more-calm =
+        rw take-is
+        (record {
+          done = calm .done;
+          asked = asked-more;
+          once = once-append (put .within .places) (takes .within .places) (λ c e i. left-apart c i e) (once-put a (codeOf 0) s) (calm .once);
+        })
 
-    more-calm : CalmTake (suc n) (takeFrom (suc n) k g s)
-    more-calm = rw take-is (record { done = calm .done; asked = asked-more; once = once-more })
-
-pub calm-take : (n k : ℕ) (g : Gap) (s : Chip) → Roomy n k g → Untouched g s → CalmTake n (takeFrom n k g s)
-calm-take zero k g s room untouched = rw (take-none k g s) (record { done = refl; asked = λ j l. absurd (omega arith); once = once-none })
-calm-take (suc n) k g s room untouched =
+pub calm-take : (n k : ℕ) (g : Gap) (s : Chip) → Roomy n k g → LiveGap g s → CalmTake n g s (takeFrom n k g s)
+calm-take zero k g s room live = rw (take-none k g s) (record { done = refl; asked = λ other j l. absurd (omega arith); once = once-none })
+calm-take (suc n) k g s room live =
     let next = next-is-free n k g room in
-    more-calm n k g s untouched next (calm-take n (k + 1) _ _ (next .roomy) (left-untouched n k g s untouched next))
+    more-calm n k g s live next (calm-take n (k + 1) _ _ (next .roomy) (left-live n k g s live next))

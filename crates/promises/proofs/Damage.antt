@@ -24,7 +24,8 @@ use Rattle.cells.specs.Chip.{Chip, cellAt, Kept}
 use Rattle.cells.proofs.Writes.{kept-wider}
 use Rattle.counter.specs.declared.places.Places.{Places}
 use Rattle.counter.specs.declared.verdict.Verdict.the-variants.{Good}
-use Rattle.counter.specs.Layout.{Layout, slots}
+use Rattle.counter.specs.declared.layout.Layout.{Layout}
+use Rattle.counter.specs.Layout.{slots}
 use Rattle.counter.specs.Map.{mapIn, pointerOf}
 use Rattle.counter.specs.Reading.{weigh, verdictOf}
 use Rattle.counter.specs.Mended.{bitsOf}

@@ -1,5 +1,5 @@
 -- The work of open and step: where it writes, and the ways in which it ends.
---   Comes                     refused with nothing touched, stopped, or good with an exact chip
+--   Comes                     refused with nothing touched, and not for what storing is, stopped, or good with an exact chip
 --   DoorLaws                  where a door's work writes, and how it ends
 --   open-laws, step-laws      they hold of open and of step
 use Prim.Native.Nat.{ℕ, _^_, _<_}
@@ -19,7 +19,7 @@ use Rattle.counter.specs.declared.verdict.Verdict.{Verdict}
 use Rattle.counter.specs.declared.verdict.Verdict.the-variants.{Good, Refused}
 use Rattle.counter.specs.declared.verdict.Work.{Work}
 use Rattle.counter.specs.declared.verdict.Work.the-variants.{Done}
-use Rattle.counter.specs.Layout.{Layout}
+use Rattle.counter.specs.declared.layout.Layout.{Layout}
 use Rattle.counter.specs.Verdict.{onGood, ending, _endingIn_, _andThen_}
 use Rattle.counter.specs.Store.{store}
 use Rattle.counter.specs.Opening.{firstOpening}
@@ -29,11 +29,11 @@ use Rattle.counter.proofs.Moves.{not-done, Ended, Ended.done, Ended.roomless, E
 use Rattle.counter.proofs.Stores.{store-laws, done-then, stopped-then}
 use Rattle.counter.proofs.Openings.{opening-laws}
 use Rattle.counter.proofs.Exact.{Exact, exact-stored, exact-opened}
-use Rattle.counter.proofs.GoodVerdicts.{VerdictGood, verdict-good}
+use Rattle.counter.proofs.GoodVerdicts.{VerdictGood, verdict-good, ofStoring, verdict-reads}
 use Rattle.counter.proofs.DoorViews.{unopened, unopened-ready, open-first, open-again, step-refused, step-last, step-on}
 
 pub data Comes (layout : Layout) (p : Places) (s : Chip) (r : Run Verdict) : Type 0 where
-  untouched : (why : Refusal) → r ≡ still (Refused why) s → Comes layout p s r
+  untouched : (why : Refusal) → ofStoring why ≡ false → r ≡ still (Refused why) s → Comes layout p s r
   spareless : (k : ℕ) → r .answer ≡ Refused (NoSpare k) → Comes layout p s r
   mapless : (a : ℕ) → r .answer ≡ Refused (MapByte a) → Comes layout p s r
   good : (c : ℕ) (lag : ℤ) → r .answer ≡ Good c lag → c < 2 ^ 32 → Exact layout p c (r .after) → Comes layout p s r
@@ -49,8 +49,8 @@ pub record Leaves (layout : Layout) (p : Places) (c : ℕ) (s : Chip) (r : Run W
   pub exact : r .answer ≡ Done → Exact layout p c (r .after)
 
 module _ {layout : Layout} {p : Places} {s : Chip} where
-  refused-laws : (why : Refusal) → DoorLaws layout p s (still (Refused why) s)
-  refused-laws why = record { within = within-still _ s; comes = untouched why refl }
+  refused-laws : (why : Refusal) → ofStoring why ≡ false → DoorLaws layout p s (still (Refused why) s)
+  refused-laws why reads = record { within = within-still _ s; comes = untouched why reads refl }
 
   -- a call that is its storing
   ending-laws : {c : ℕ} (lag : ℤ) (r : Run Work) → c < 2 ^ 32 → Leaves layout p c s r → DoorLaws layout p s (r endingIn Good c lag)
@@ -98,7 +98,7 @@ module _ {layout : Layout} {p : Places} {s : Chip} where
 module _ (layout : Layout) (p : Places) (s : Chip) where
   again : (v : Verdict) → chipVerdict layout p s ≡ v → DoorLaws layout p s (onGood v (λ c lag. store layout p c s endingIn Good c lag) s)
   again (Good c lag) e = let v = verdict-good layout p s e .1 in ending-laws lag (store layout p c s) (v .small) (store-leaves v)
-  again (Refused why) e = refused-laws why
+  again (Refused why) e = refused-laws why (verdict-reads layout p s e)
 
   pub open-laws : DoorLaws layout p s (openRun layout p s)
   open-laws = go (unopened layout p s) refl
@@ -114,7 +114,7 @@ module _ (layout : Layout) (p : Places) (s : Chip) where
   step-laws = go (chipVerdict layout p s) refl
     where
       counted : (c : ℕ) (lag : ℤ) → chipVerdict layout p s ≡ Good c lag → Dec (c ≡ lastCount) → DoorLaws layout p s (stepRun layout p s)
-      counted c lag e (yes l) = rw (step-last layout p s c lag e l) (refused-laws LastCount)
+      counted c lag e (yes l) = rw (step-last layout p s c lag e l) (refused-laws LastCount refl)
       counted c lag e (no n) =
           let v = verdict-good layout p s e .1 in
           let small = v .small in
@@ -122,4 +122,4 @@ module _ (layout : Layout) (p : Places) (s : Chip) where
 
       go : (v : Verdict) → chipVerdict layout p s ≡ v → DoorLaws layout p s (stepRun layout p s)
       go (Good c lag) e = counted c lag e (ℕ-discrete c lastCount)
-      go (Refused why) e = rw (step-refused layout p s why e) (refused-laws why)
+      go (Refused why) e = rw (step-refused layout p s why e) (refused-laws why (verdict-reads layout p s e))

@@ -23,7 +23,8 @@ use Rattle.counter.specs.declared.verdict.Verdict.{Verdict}
 use Rattle.counter.specs.declared.verdict.Verdict.the-variants.{Good}
 use Rattle.counter.specs.declared.verdict.Work.{Work}
 use Rattle.counter.specs.declared.verdict.Work.the-variants.{Done, Stopped}
-use Rattle.counter.specs.Layout.{Layout, slots}
+use Rattle.counter.specs.declared.layout.Layout.{Layout}
+use Rattle.counter.specs.Layout.{slots}
 use Rattle.counter.specs.Map.{mapIn}
 use Rattle.counter.specs.Verdict.{ending, _endingIn_, _andThen_}
 use Rattle.counter.specs.Store.{slotCode, store}

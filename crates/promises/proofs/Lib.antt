@@ -1,6 +1,7 @@
 pub mod Bench
 pub mod DoorRuns
 pub mod Untouched
+pub mod Trials
 pub mod OwnCells
 pub mod TurnsAndCells
 pub mod MendedCells
@@ -10,6 +11,8 @@ pub mod StepChanges
 pub mod Written
 pub mod Ample
 pub mod ExactSteps
+pub mod CutSteps
+pub mod TornReads
 pub mod SettingA
 pub mod RoomlessStores
 pub mod RoomlessOpenings
@@ -21,7 +24,10 @@ pub mod RunSteps
 pub mod RunBounds
 pub mod CalmTakes
 pub mod CalmMaps
+pub mod FirstOpenings
 pub mod BlankOpenings
 pub mod Wear
 pub mod ConditionThree
 pub mod Sharp
+pub mod CutOpenings
+pub mod SharpCuts

@@ -14,7 +14,8 @@ use Rattle.code.proofs.MendedLaws.{total, isMended, many-most, counts-add}
 use Rattle.counter.specs.declared.places.Places.{Places}
 use Rattle.counter.specs.declared.verdict.Verdict.{Verdict}
 use Rattle.counter.specs.declared.verdict.Verdict.the-variants.{Good, Refused}
-use Rattle.counter.specs.Layout.{Layout, slots}
+use Rattle.counter.specs.declared.layout.Layout.{Layout}
+use Rattle.counter.specs.Layout.{slots}
 use Rattle.counter.specs.Map.{mapIn, pointerOf}
 use Rattle.counter.specs.Reading.{dataAt, verdictOf}
 use Rattle.counter.specs.Mended.{bitsOf}

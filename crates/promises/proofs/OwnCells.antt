@@ -3,7 +3,7 @@
 use Rattle.cells.specs.Chip.{Chip, Kept}
 use Rattle.cells.proofs.Logs.{within-kept}
 use Rattle.counter.specs.declared.places.Places.{Places}
-use Rattle.counter.specs.Layout.{Layout}
+use Rattle.counter.specs.declared.layout.Layout.{Layout}
 use Rattle.counter.specs.Doors.{openOf, stepOf}
 use Rattle.counter.proofs.Ready.{Own}
 use Rattle.counter.proofs.DoorAnswers.{open-is, step-is}

@@ -9,7 +9,8 @@ use Rattle.counter.specs.declared.map.Kind.{Kind}
 use Rattle.counter.specs.declared.map.Kind.the-variants.{High, Low}
 use Rattle.counter.specs.declared.places.Places.{Places}
 use Rattle.counter.specs.declared.spares.Gap.{Gap}
-use Rattle.counter.specs.Layout.{Layout, slots}
+use Rattle.counter.specs.declared.layout.Layout.{Layout}
+use Rattle.counter.specs.Layout.{slots}
 use Rattle.counter.specs.Slots.{kindOf}
 use Rattle.promises.specs.Runs.{areaCells}
 use Rattle.counter.proofs.SoundPointers.{Sound}

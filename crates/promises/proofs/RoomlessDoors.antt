@@ -21,7 +21,8 @@ use Rattle.counter.specs.declared.verdict.Work.the-variants.{Done, Stopped}
 use Rattle.counter.specs.declared.verdict.Refusal.the-variants.{NoSpare}
 use Rattle.counter.specs.declared.verdict.Verdict.{Verdict}
 use Rattle.counter.specs.declared.verdict.Verdict.the-variants.{Good, Refused}
-use Rattle.counter.specs.Layout.{Layout, slots}
+use Rattle.counter.specs.declared.layout.Layout.{Layout}
+use Rattle.counter.specs.Layout.{slots}
 use Rattle.counter.specs.Verdict.{Outcome, ending, _andThen_}
 use Rattle.counter.specs.Store.{slotCode, store}
 use Rattle.counter.specs.Doors.{lastCount, chipVerdict, openRun, stepRun, openOf, stepOf}
@@ -30,7 +31,7 @@ use Rattle.counter.proofs.Moves.{Ended, Ended.done, Ended.roomless, Ended.unmap
 use Rattle.counter.proofs.Stores.{StoreLaws, store-laws, done-then, stopped-then}
 use Rattle.counter.proofs.DoorAnswers.{code-eight, spareless-code, spareless-place, open-is, step-is}
 use Rattle.counter.proofs.DoorViews.{unopened, unopened-ready, open-first, open-again, settling-refused, settling-good, step-refused, step-last, step-on}
-use Rattle.counter.proofs.GoodVerdicts.{VerdictGood, verdict-good, verdict-room}
+use Rattle.counter.proofs.GoodVerdicts.{VerdictGood, verdict-good, verdict-reads}
 use Rattle.promises.proofs.Room.{Asked, asked-then, asked-giving}
 use Rattle.promises.proofs.RoomlessStores.{StoreFull, store-roomless, store-tried}
 use Rattle.promises.proofs.RoomlessOpenings.{takenTo, OpeningFull, opening-roomless, SparesAsked, spares-giving, opening-tried}
@@ -110,7 +111,7 @@ module _ (layout : Layout) (p : Places) (s : Chip) (k : ℕ) where
   step-only : stepRun layout p s .answer ≡ Refused (NoSpare k) → (v : Verdict) → chipVerdict layout p s ≡ v → StepFull layout p s k
   step-only e (Refused why) q =
       let h = sym (ap (λ (r : Run Verdict). r .answer) (step-refused layout p s why q)) ∙ e in
-      absurd (verdict-room {k = k} layout p s (q ∙ h))
+      absurd (true≢false (verdict-reads {why = NoSpare k} layout p s (q ∙ h)))
   step-only e (Good c lag) q = counted (ℕ-discrete c lastCount)
     where
       counted : Dec (c ≡ lastCount) → StepFull layout p s k
@@ -171,7 +172,7 @@ module _ (layout : Layout) (p : Places) (s : Chip) (k : ℕ) where
       read : (v : Verdict) → chipVerdict layout p s ≡ v → OpenFull layout p s k
       read (Refused why) h =
           let run = open-again layout p s q ∙ settling-refused layout p s _ why h in
-          absurd (verdict-room {k = k} layout p s (h ∙ sym (ap (λ (r : Run Verdict). r .answer) run) ∙ e))
+          absurd (true≢false (verdict-reads {why = NoSpare k} layout p s (h ∙ sym (ap (λ (r : Run Verdict). r .answer) run) ∙ e)))
       read (Good c lag) h =
           let run = open-again layout p s q ∙ settling-good layout p s _ c lag h in
           let v = verdict-good layout p s h .1 in

@@ -27,7 +27,8 @@ use Rattle.counter.specs.declared.spares.Gap.{Gap}
 use Rattle.counter.specs.declared.verdict.Work.{Work}
 use Rattle.counter.specs.declared.verdict.Work.the-variants.{Done, Stopped}
 use Rattle.counter.specs.declared.verdict.Refusal.the-variants.{NoSpare}
-use Rattle.counter.specs.Layout.{Layout, slots}
+use Rattle.counter.specs.declared.layout.Layout.{Layout}
+use Rattle.counter.specs.Layout.{slots}
 use Rattle.counter.specs.Slots.{kindOf}
 use Rattle.counter.specs.Spares.{gap, wholeArea, narrow, gapTo}
 use Rattle.counter.specs.Verdict.{_andThen_}

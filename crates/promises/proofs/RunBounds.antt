@@ -14,7 +14,7 @@ use Rattle.cells.proofs.Logs.{asked-none, asked-append}
 use Rattle.counter.specs.declared.places.Places.{Places}
 use Rattle.counter.specs.declared.verdict.Verdict.{Verdict}
 use Rattle.counter.specs.declared.verdict.Verdict.the-variants.{Good, Refused}
-use Rattle.counter.specs.Layout.{Layout}
+use Rattle.counter.specs.declared.layout.Layout.{Layout}
 use Rattle.counter.specs.Doors.{lastCount, openRun, stepRun}
 use Rattle.promises.specs.Runs.{stepsUpTo, stepsAfter, dataWrites, dataBound}
 use Rattle.counter.proofs.Moves.{roomOf}

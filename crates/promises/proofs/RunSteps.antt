@@ -13,7 +13,7 @@ use Rattle.counter.specs.declared.places.Places.{Places}
 use Rattle.counter.specs.declared.verdict.Answer.{Answer}
 use Rattle.counter.specs.declared.verdict.Verdict.{Verdict}
 use Rattle.counter.specs.declared.verdict.Verdict.the-variants.{Good, Refused}
-use Rattle.counter.specs.Layout.{Layout}
+use Rattle.counter.specs.declared.layout.Layout.{Layout}
 use Rattle.counter.specs.Doors.{stepRun, stepOf}
 use Rattle.promises.specs.Runs.{onward, stepsUpTo}
 use Rattle.counter.proofs.Ready.{Own}

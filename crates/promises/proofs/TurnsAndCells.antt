@@ -22,7 +22,7 @@ use Rattle.counter.specs.declared.verdict.Verdict.{Verdict}
 use Rattle.counter.specs.declared.verdict.Verdict.the-variants.{Good, Refused}
 use Rattle.counter.specs.declared.verdict.Work.{Work}
 use Rattle.counter.specs.declared.verdict.Work.the-variants.{Done, Stopped}
-use Rattle.counter.specs.Layout.{Layout}
+use Rattle.counter.specs.declared.layout.Layout.{Layout}
 use Rattle.counter.specs.Verdict.{answer, outcomeOf, ending, _andThen_}
 use Rattle.counter.specs.Reading.{verdictOf}
 use Rattle.counter.specs.Store.{store}
@@ -38,7 +38,7 @@ use Rattle.promises.proofs.DoorRuns.{Comes, Comes.untouched, Comes.spar
 pub run-exact :
     {layout : Layout} {p : Places} {s : Chip} {c : ℕ} {lag : ℤ} (r : Run Verdict) → Comes layout p s r
     → r .answer ≡ Good c lag → (c < 2 ^ 32) × Exact layout p c (r .after)
-run-exact r (untouched why e) g = not-good (sym (ap (λ (q : Run Verdict). q .answer) e) ∙ g)
+run-exact r (untouched why reads e) g = not-good (sym (ap (λ (q : Run Verdict). q .answer) e) ∙ g)
 run-exact r (spareless k e) g = not-good (sym e ∙ g)
 run-exact r (mapless a e) g = not-good (sym e ∙ g)
 run-exact {layout} {p} {s} {c} r (good d lag e small exact) g = let q : d ≡ c = cc in (rw q at small, rw q at exact)

@@ -7,7 +7,7 @@ use Rattle.cells.specs.Run.{Run}
 use Rattle.counter.specs.declared.places.Places.{Places}
 use Rattle.counter.specs.declared.verdict.Answer.{Answer}
 use Rattle.counter.specs.declared.verdict.Verdict.{Verdict}
-use Rattle.counter.specs.Layout.{Layout}
+use Rattle.counter.specs.declared.layout.Layout.{Layout}
 use Rattle.counter.specs.Verdict.{outcomeOf}
 use Rattle.counter.specs.Doors.{openRun, stepRun, openOf, stepOf}
 use Rattle.counter.proofs.DoorAnswers.{good-says, spareless-code, mapless-code, open-is, step-is}
@@ -18,7 +18,7 @@ run-untouched :
     {layout : Layout} {p : Places} {s : Chip} (r : Run Verdict) → Comes layout p s r
     → (outcomeOf r .says .code ≡ 0 → ⊥) → (outcomeOf r .says .code ≡ 8 → ⊥) → (outcomeOf r .says .code ≡ 9 → ⊥)
     → r .after ≡ s
-run-untouched r (untouched why e) zero eight nine = ap (λ (q : Run Verdict). q .after) e
+run-untouched r (untouched why reads e) zero eight nine = ap (λ (q : Run Verdict). q .after) e
 run-untouched r (spareless k e) zero eight nine = absurd (eight (spareless-code r e))
 run-untouched r (mapless a e) zero eight nine = absurd (nine (mapless-code r e))
 run-untouched r (good c lag e small exact) zero eight nine = absurd (zero (ap (λ (a : Answer). a .code) (good-says r e)))

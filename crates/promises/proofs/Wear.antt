@@ -15,13 +15,13 @@ use Rattle.cells.specs.Chip.{Chip, lifeAt}
 use Rattle.cells.specs.Log.{askedOf}
 use Rattle.cells.proofs.Logs.{asked-none, asked-append, within-life}
 use Rattle.counter.specs.declared.places.Places.{Places}
-use Rattle.counter.specs.Layout.{Layout, slots}
+use Rattle.counter.specs.declared.layout.Layout.{Layout}
+use Rattle.counter.specs.Layout.{slots}
 use Rattle.counter.specs.Map.{mapIn}
 use Rattle.counter.specs.Verdict.{answer, outcomeOf}
 use Rattle.counter.specs.Doors.{lastCount, openRun, stepRun, openOf}
 use Rattle.promises.specs.Runs.{stepsUpTo, opened, cellOf, counting, writesOf, Fresh, Worn, Lasts}
-use Rattle.counter.proofs.Ready.{pointers, Ready, inside-cell}
-use Rattle.counter.proofs.Fitted.{tests-ready}
+use Rattle.counter.proofs.Ready.{pointers, inside-cell}
 use Rattle.counter.proofs.Exact.{Exact}
 use Rattle.counter.proofs.DoorAnswers.{good-says, open-is}
 use Rattle.promises.proofs.DoorRuns.{open-laws, step-laws}
@@ -29,7 +29,8 @@ use Rattle.counter.proofs.NextStores.{changedNibble}
 use Rattle.promises.proofs.ExactSteps.{stepWrites, StepCalm, step-calm}
 use Rattle.promises.proofs.RunSteps.{steps-next, steps-within}
 use Rattle.promises.proofs.WriteCounts.{writes-none, writes-step}
-use Rattle.promises.proofs.BlankOpenings.{OpenCalm, open-calm}
+use Rattle.promises.proofs.FirstOpenings.{alive-fewer, OpenCalm, open-calm}
+use Rattle.promises.proofs.BlankOpenings.{fresh-ready, fresh-alive, fresh-unwritten}
 
 -- one write a copy
 step-length : (n copy : ℕ) (pointer : ℕ → ℕ) (c : ℕ) → length (stepWrites n copy pointer c) ≡ n
@@ -101,11 +102,8 @@ unfolding writesOf
 writes-most n k = let h = div-le-self n (16 ^ k) in omega arith
 
 module _ {n : ℕ} {layout : Layout} {p : Places} {s : Chip} (fresh : Fresh n layout p s) where
-  fresh-ready : Ready layout p s
-  fresh-ready = tests-ready (fresh .lives) (fresh .long) (fresh .places)
-
   opening : OpenCalm layout p s
-  opening = open-calm (record { ready = fresh-ready; blank = fresh .blank; alive = λ a l. let h = fresh .lasting a l in omega arith })
+  opening = open-calm (alive-fewer (omega arith) (fresh-alive fresh))
 
   opens : openOf layout p s .says ≡ answer 0 0 (pos 0) 0 (length (openRun layout p s .log)) 0
   opens = rw (open-is layout p s, good-says (openRun layout p s) (opening .answers), opening .tried)
@@ -115,12 +113,12 @@ module _ {n : ℕ} {layout : Layout} {p : Places} {s : Chip} (fresh : Fresh n la
   slotCell j = pointers layout p (opened layout p s) j
 
   slot-lasting : (j : ℕ) → j < slots layout → n + 1 ≤ lifeAt s (slotCell j)
-  slot-lasting j l = fresh .lasting _ (inside-cell fresh-ready (opening .exact .sound .inside j l))
+  slot-lasting j l = fresh .lasting _ (inside-cell (fresh-ready fresh) (opening .exact .sound .inside j l))
 
   opened-life : (j : ℕ) → j < slots layout → lifeAt (opened layout p s) (slotCell j) + 1 ≡ lifeAt s (slotCell j)
   opened-life j l =
       let left = within-life (open-laws layout p s .within) (slotCell j) in
-      let one = opening .asked j l in
+      let one = opening .asked (fresh-unwritten fresh) j l in
       let had = slot-lasting j l in
       omega arith
 
@@ -140,7 +138,7 @@ module _ {n : ℕ} {layout : Layout} {p : Places} {s : Chip} (fresh : Fresh n la
         let left = within-life (steps-within n layout p (opened layout p s)) (cellOf layout p s copy k) in
         let had = opened-life (8 * copy + k) (omega arith) in
         let lasting = opened-live (8 * copy + k) (omega arith) in
-        record { first = opening .asked (8 * copy + k) (omega arith); written = omega arith; life = omega arith }
+        record { first = opening .asked (fresh-unwritten fresh) (8 * copy + k) (omega arith); written = omega arith; life = omega arith }
 
     pub fresh-lasts : Lasts n layout p s
     fresh-lasts = record { opens = opens; answers = steps .answers; map = steps .map; worn = worn }

@@ -12,7 +12,8 @@ use Rattle.cells.proofs.Writes.{kept-wider, write-laws}
 use Rattle.cells.proofs.Puts.{put-laws}
 use Rattle.counter.specs.declared.places.Places.{Places}
 use Rattle.counter.specs.declared.verdict.Work.the-variants.{Done}
-use Rattle.counter.specs.Layout.{Layout, slots}
+use Rattle.counter.specs.declared.layout.Layout.{Layout}
+use Rattle.counter.specs.Layout.{slots}
 use Rattle.counter.specs.Map.{mapIn}
 use Rattle.counter.specs.Store.{storeSlot}
 use Rattle.counter.proofs.SoundPointers.{Sound}
