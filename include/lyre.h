@@ -43,6 +43,8 @@ extern "C" {
        pointer, the map may be left unsound, so that every call is refused 4 from then on, or with a pointer to some other cell:
        lyre_read may then be refused, or answer another count, a lower one too
    10  a byte one bit from two codes; place is the nibble (never met: no two codes are that near)
+   11  the power was lost in a write: place is the cell's address, and cells and lives stay as written so far. Only the two trials,
+       lyre_trial_open and lyre_trial_step, answer this
    16  a copy other than 1 or 2 was asked of lyre_map_part */
 
 typedef struct {
@@ -112,7 +114,7 @@ typedef struct {
     uint64_t length; /* of the text that was written; 0 on a refusal */
 } lyre_text;
 
-/* In the first four: n bytes of image, the map's 24 cells from m, the area from s to e, e included. lives[i] is the number of good
+/* In the first six: n bytes of image, the map's 24 cells from m, the area from s to e, e included. lives[i] is the number of good
    writes left in cell i, and lives_n has to be n. */
 
 /* Opens the image: settles a count that is there, or makes map and count 0 where there is no mark.
@@ -128,6 +130,17 @@ lyre_answer lyre_step(uint8_t *image, size_t n, uint32_t *lives, size_t lives_n,
 
 /* Says where in the image the pointers of copy 1 or 2 stand. The count need not be readable for it. */
 lyre_part lyre_map_part(const uint8_t *image, size_t n, size_t m, size_t s, size_t e, uint32_t copy);
+
+/* lyre_open as it goes where the mains are lost. There is power for that many cell writes, counted as `writes` counts them, and the next
+   one that is asked for is torn: it leaves the byte torn in place of its own and takes a life as any write does, while a worn cell
+   keeps what it has. Nothing is read back, and the call ends there with refusal 11. With power for every write it answers as
+   lyre_open does. */
+lyre_answer lyre_trial_open(uint8_t *image, size_t n, uint32_t *lives, size_t lives_n, size_t m, size_t s, size_t e, size_t power,
+                            uint8_t torn);
+
+/* The same of lyre_step. What lyre_read and lyre_open answer then is in docs/POWER.md. */
+lyre_answer lyre_trial_step(uint8_t *image, size_t n, uint32_t *lives, size_t lives_n, size_t m, size_t s, size_t e, size_t power,
+                            uint8_t torn);
 
 /* Writes any n bytes as Intel HEX: records of 16 bytes in rising order, capital digits, a line feed behind each line, and the end
    record. What stands in text past the part written is kept. */

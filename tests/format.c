@@ -17,6 +17,11 @@ static bool shown[largest];
 static size_t n, m, s, e;
 static bool shown_whole; /* some chip was shown with all its cells */
 
+/* The next call is one that loses its power. */
+static bool is_cut;
+static size_t power;
+static uint8_t torn;
+
 static void fail(const char *what, const char *word)
 {
     fprintf(stderr, "format: %s: %s\n", what, word);
@@ -34,12 +39,18 @@ static void blank(size_t cells, size_t map, size_t start, size_t end)
 
 static lyre_answer open_it(void)
 {
-    return lyre_open(image, n, lives, n, m, s, e);
+    if (!is_cut)
+        return lyre_open(image, n, lives, n, m, s, e);
+    is_cut = false;
+    return lyre_trial_open(image, n, lives, n, m, s, e, power, torn);
 }
 
 static lyre_answer step_it(void)
 {
-    return lyre_step(image, n, lives, n, m, s, e);
+    if (!is_cut)
+        return lyre_step(image, n, lives, n, m, s, e);
+    is_cut = false;
+    return lyre_trial_step(image, n, lives, n, m, s, e, power, torn);
 }
 
 static void print_answer(lyre_answer answer)
@@ -175,7 +186,19 @@ static void needed_range(const char *after, size_t *first, size_t *last)
         fail("no cells of this chip", word);
 }
 
-/* Does a word that changes the chip, or one that ends the line with what comes back; says whether the line is at its end. */
+/* power NUMBER torn BYTE */
+static void needed_cut(const char *after)
+{
+    unsigned byte;
+    if (sscanf(needed_word(after), "%zu", &power) != 1 || strcmp(needed_word(after), "torn") != 0 ||
+        sscanf(needed_word("torn"), "%2x", &byte) != 1)
+        fail("no number and torn byte", after);
+    torn = (uint8_t)byte;
+    is_cut = true;
+}
+
+/* Does a word that changes the chip or the next call, or one that ends the line with what comes back; says whether the line is at its
+   end. */
 static bool do_word(const char *word)
 {
     size_t first, last;
@@ -188,6 +211,10 @@ static bool do_word(const char *word)
         needed_range(word, &first, &last);
         for (size_t i = first; i <= last; i++)
             lives[i] = 0;
+        return false;
+    }
+    if (strcmp(word, "power") == 0) {
+        needed_cut(word);
         return false;
     }
     if (strcmp(word, "open") == 0)
@@ -232,6 +259,8 @@ int main(void)
         char *word = next_word(line);
         while (word != NULL && !do_word(word))
             word = next_word(NULL);
+        if (is_cut)
+            fail("no open or step in its line", "power");
         printf("\n");
     }
     if (!shown_whole)

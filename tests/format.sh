@@ -16,7 +16,7 @@ sed -n '/^```run$/,/^```$/{
     s/ $//
     /./p
 }' "$page" >"$work/shown"
-for word in chip open read counts step part cells worn file call nibble codes bytes bits; do
+for word in chip open read counts step power torn part cells worn file call nibble codes bytes bits; do
     grep -qw "$word" "$work/shown" || { echo "format: no run of the page has the word $word"; exit 1; }
 done
 $compiler tests/format.c "$archive" -o "$work/format"

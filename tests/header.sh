@@ -23,13 +23,13 @@ sed 's:^ *//.*::' "$root/crates/lyre/src/lib.rt" |
         s/(const uint8_t \*text, size_t) text_n/\1 length/
         s/(uint8_t \*text, size_t) text_n/\1 room/
         s/(pub )?(\w+): \[u32; ?([0-9]+)\]/uint32_t \2[\3]/g
-        s/(pub )?(\w+): u(32|64)/uint\3_t \2/g
+        s/(pub )?(\w+): u(8|32|64)/uint\3_t \2/g
         s/(pub )?(\w+): i64/int64_t \2/g
         s/(\w+): usize/size_t \1/g
         /^typedef/s/, ?/;/g' >"$work/source"
 sed -E '/^#/d; s:/\*[^*]*\*/::g; /\/\*/,/\*\//d' "$root/include/lyre.h" |
     lay 'typedef struct\{[^}]*\} \w+;|[^;{}]*\([^)]*\);' >"$work/header"
-[ "$(wc -l <"$work/source")" -eq 14 ] || { echo 'header: not fourteen exports in the source'; cat "$work/source"; exit 1; }
+[ "$(wc -l <"$work/source")" -eq 16 ] || { echo 'header: not sixteen exports in the source'; cat "$work/source"; exit 1; }
 diff "$work/source" "$work/header" || { echo 'header: lyre.h (>) is not what the source exports (<)'; exit 1; }
 
 $compiler -fsyntax-only -x c - <<C

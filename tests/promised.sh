@@ -23,7 +23,7 @@ public() {
 
 [ "$(public | wc -l)" -gt 0 ] || { echo 'promised: no public function was found'; exit 1; }
 public | grep -v ensures && { echo 'promised: these promise nothing'; exit 1; }
-heads crates/counter/src/doors.rt crates/hex/src/lib.rt crates/card/src/lib.rt crates/lyre/src/lib.rt | grep requires && { echo 'promised: these ask something'; exit 1; }
+heads crates/counter/src/doors.rt crates/counter/src/trials.rt crates/hex/src/lib.rt crates/card/src/lib.rt crates/lyre/src/lib.rt | grep requires && { echo 'promised: these ask something'; exit 1; }
 public | awk '{ print $2 }' | while read -r name; do
     theorem=$(echo "$name" | tr _ -)-one
     # NoSecond.antt calls the module of `open` opens

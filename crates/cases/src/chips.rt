@@ -5,6 +5,7 @@ use card::Card;
 use card::ChipAnswer;
 use counter::doors;
 use counter::doors::ReadAnswer;
+use counter::trials;
 use counter::verdict::Answer;
 
 // The cells of the largest chip.
@@ -102,6 +103,44 @@ pub(crate) fn step(mut chip: Chip) -> Done {
         chip.map,
         chip.start,
         chip.end,
+    );
+    chip.image = image;
+    chip.lives = lives;
+    Done { answer, chip }
+}
+
+// An open with power for so many writes; the one after them leaves the torn byte.
+pub(crate) fn trial_open(mut chip: Chip, power: usize, torn: u8) -> Done {
+    let mut image = chip.image;
+    let mut lives = chip.lives;
+    let n = at_most_largest(chip.size);
+    let answer = trials::trial_open(
+        &mut image[..n],
+        &mut lives[..n],
+        chip.map,
+        chip.start,
+        chip.end,
+        power,
+        torn,
+    );
+    chip.image = image;
+    chip.lives = lives;
+    Done { answer, chip }
+}
+
+// A step of that kind.
+pub(crate) fn trial_step(mut chip: Chip, power: usize, torn: u8) -> Done {
+    let mut image = chip.image;
+    let mut lives = chip.lives;
+    let n = at_most_largest(chip.size);
+    let answer = trials::trial_step(
+        &mut image[..n],
+        &mut lives[..n],
+        chip.map,
+        chip.start,
+        chip.end,
+        power,
+        torn,
     );
     chip.image = image;
     chip.lives = lives;

@@ -6,6 +6,8 @@ use super::chips::cell;
 use super::chips::open;
 use super::chips::read;
 use super::chips::step;
+use super::chips::trial_open;
+use super::chips::trial_step;
 use card::Card;
 use counter::verdict::Answer;
 use libc::STDOUT_FILENO;
@@ -84,6 +86,19 @@ pub(crate) fn say_open(name: &[u8], chip: Chip, first: usize, second: usize) -> 
 pub(crate) fn say_step(name: &[u8], chip: Chip, first: usize, second: usize) -> Chip {
     let done = step(chip);
     say(name, done.answer, done.chip, first, second);
+    done.chip
+}
+
+// Calls that lose their power. The cell to show is the torn one.
+pub(crate) fn say_cut_open(name: &[u8], chip: Chip, power: usize, torn: u8, at: usize) -> Chip {
+    let done = trial_open(chip, power, torn);
+    say(name, done.answer, done.chip, at, NONE);
+    done.chip
+}
+
+pub(crate) fn say_cut_step(name: &[u8], chip: Chip, power: usize, torn: u8, at: usize) -> Chip {
+    let done = trial_step(chip, power, torn);
+    say(name, done.answer, done.chip, at, NONE);
     done.chip
 }
 

@@ -9,6 +9,7 @@ mod hexes;
 mod lines;
 mod mended;
 mod texts;
+mod trials;
 
 fn main() {
     bench::cases();
@@ -17,4 +18,5 @@ fn main() {
     hexes::cases();
     erased::cases();
     cards::cases();
+    trials::cases();
 }

@@ -6,6 +6,7 @@ ghost use Rattle.cells.specs.Chip.{chip};
 ghost use Rattle.counter.specs.Layout.{two};
 ghost use Rattle.counter.specs.Places.{places};
 ghost use Rattle.counter.specs.Doors.{Opens, Steps, Reads, mapPartOf};
+ghost use Rattle.counter.specs.Trials.{TrialOpens, TrialSteps};
 ghost use Rattle.hex.specs.Doors.{outcome, writeOf, readOf};
 ghost use Rattle.card.specs.Cards.{card as cardOf};
 ghost use Rattle.card.specs.Answers.{refused, answerOf};
@@ -139,6 +140,38 @@ pub extern "C" fn lyre_map_part(image: &[u8], m: usize, s: usize, e: usize, copy
         start: part.start as u64,
         length: part.size as u64,
     }
+}
+
+// Opens a chip, with power for so many writes.
+#[no_mangle]
+pub extern "C" fn lyre_trial_open(
+    image: &mut [u8],
+    lives: &mut [u32],
+    m: usize,
+    s: usize,
+    e: usize,
+    power: usize,
+    torn: u8,
+) -> Answer
+    ensures { λ r. ⌜ TrialOpens (places m s e) power torn (chip (now (image .entry)) (now (lives .entry))) (answerIn r) (chip (now (image .exit)) (now (lives .exit))) ⌝ }
+{
+    plain(counter::trials::trial_open(image, lives, m, s, e, power, torn))
+}
+
+// Steps the count by one, with power for so many writes.
+#[no_mangle]
+pub extern "C" fn lyre_trial_step(
+    image: &mut [u8],
+    lives: &mut [u32],
+    m: usize,
+    s: usize,
+    e: usize,
+    power: usize,
+    torn: u8,
+) -> Answer
+    ensures { λ r. ⌜ TrialSteps (places m s e) power torn (chip (now (image .entry)) (now (lives .entry))) (answerIn r) (chip (now (image .exit)) (now (lives .exit))) ⌝ }
+{
+    plain(counter::trials::trial_step(image, lives, m, s, e, power, torn))
 }
 
 // The answer of Intel HEX, laid out for C.

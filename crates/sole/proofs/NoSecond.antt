@@ -33,6 +33,10 @@ use Rattle.code.proofs.TabulateLaws.{alike}
 use Rattle.code.specs.Tabulate.{tabulate}
 use lib.ListN.{getD}
 use Rattle.cells.proofs.put.put
+use Rattle.cells.proofs.mains.Mains.steady
+use Rattle.cells.proofs.mains.Mains.behind
+use Rattle.cells.proofs.mains.put_on
+use Rattle.cells.proofs.Cuts.{tells-one}
 use Rattle.cells.proofs.row.walk
 use Rattle.cells.proofs.row.put_row
 use Rattle.counter.proofs.doors.open as opens
@@ -40,6 +44,8 @@ use Rattle.counter.proofs.doors.read
 use Rattle.counter.proofs.doors.step
 use Rattle.counter.proofs.doors.part_of
 use Rattle.counter.proofs.doors.map_part
+use Rattle.counter.proofs.trials.trial_open
+use Rattle.counter.proofs.trials.trial_step
 use Rattle.counter.specs.declared.verdict.Answer as verdict
 use Rattle.counter.specs.declared.doors.ReadAnswer as reading
 use Rattle.counter.specs.declared.doors.Part as doors
@@ -53,6 +59,8 @@ use Rattle.lyre.proofs.lyre_open
 use Rattle.lyre.proofs.lyre_step
 use Rattle.lyre.proofs.lyre_read
 use Rattle.lyre.proofs.lyre_map_part
+use Rattle.lyre.proofs.lyre_trial_open
+use Rattle.lyre.proofs.lyre_trial_step
 use Rattle.lyre.proofs.lyre_hex_write
 use Rattle.lyre.proofs.lyre_hex_read
 use Rattle.lyre.proofs.lyre_card_at
@@ -177,17 +185,35 @@ module _ {M : Type 1} (𝓤 : URA M) where
     pub put-one : Sole 𝓤 put.ended (put.clauses 𝓤 H A mem run) (λ κs r at. left r (now (at .0)) (now (at .1 .0)))
     put-one _ _ _ _ _ _ _ = same (λ v. left (record { held = v .answer; writes = v .writes }) (v .after .cells) (v .after .lives))
 
+    pub steady-one : Sole 𝓤 steady.ended (steady.clauses 𝓤 H A mem run) (λ κs r at. r)
+    steady-one _ _ _ _ _ _ _ = both (λ one two. λ i. record { power = (one .0 ∙ sym (two .0)) i; torn = (one .1 ∙ sym (two .1)) i })
+
+    pub behind-one : Sole 𝓤 behind.ended (behind.clauses 𝓤 H A mem run) (λ κs r at. r)
+    behind-one _ _ _ _ _ _ _ = both (λ one two. λ i. record { power = (one .0 ∙ sym (two .0)) i; torn = (one .1 ∙ sym (two .1)) i })
+
+    pub put-on-one : Sole 𝓤 put_on.ended (put_on.clauses 𝓤 H A mem run) (λ κs r at. left r (now (at .0)) (now (at .1 .0)))
+    put-on-one _ _ _ _ _ _ _ =
+        both (λ one two. let e = tells-one one two in λ i. left (record { lost = e .0 i; held = e .1 i .answer; writes = e .1 i .writes }) (e .1 i .after .cells) (e .1 i .after .lives))
+
     pub walk-one : Sole 𝓤 walk.ended (walk.clauses 𝓤 H A mem run) (λ κs r at. left r (now (at .0)) (now (at .1 .0)))
-    walk-one _ _ _ _ _ _ _ = same (λ v. left (record { found = v .answer; writes = v .writes; tried = v .tried }) (v .after .cells) (v .after .lives))
+    walk-one _ _ _ _ _ _ _ =
+        both (λ one two. let e = tells-one one two in λ i. left (record { lost = e .0 i; found = e .1 i .answer; writes = e .1 i .writes; tried = e .1 i .tried }) (e .1 i .after .cells) (e .1 i .after .lives))
 
     pub put-row-one : Sole 𝓤 put_row.ended (put_row.clauses 𝓤 H A mem run) (λ κs r at. left r (now (at .0)) (now (at .1 .0)))
-    put-row-one _ _ _ _ _ _ _ = same (λ v. left (record { failed = v .answer; writes = v .writes }) (v .after .cells) (v .after .lives))
+    put-row-one _ _ _ _ _ _ _ =
+        both (λ one two. let e = tells-one one two in λ i. left (record { lost = e .0 i; failed = e .1 i .answer; writes = e .1 i .writes }) (e .1 i .after .cells) (e .1 i .after .lives))
 
     pub open-one : Sole 𝓤 opens.ended (opens.clauses 𝓤 H A mem run) (λ κs r at. left r (now (at .0)) (now (at .1 .0)))
     open-one _ _ _ _ _ _ _ = same (λ v. left (v .says) (v .leaves .cells) (v .leaves .lives))
 
     pub step-one : Sole 𝓤 step.ended (step.clauses 𝓤 H A mem run) (λ κs r at. left r (now (at .0)) (now (at .1 .0)))
     step-one _ _ _ _ _ _ _ = same (λ v. left (v .says) (v .leaves .cells) (v .leaves .lives))
+
+    pub trial-open-one : Sole 𝓤 trial_open.ended (trial_open.clauses 𝓤 H A mem run) (λ κs r at. left r (now (at .0)) (now (at .1 .0)))
+    trial-open-one _ _ _ _ _ _ _ = same (λ v. left (v .says) (v .leaves .cells) (v .leaves .lives))
+
+    pub trial-step-one : Sole 𝓤 trial_step.ended (trial_step.clauses 𝓤 H A mem run) (λ κs r at. left r (now (at .0)) (now (at .1 .0)))
+    trial-step-one _ _ _ _ _ _ _ = same (λ v. left (v .says) (v .leaves .cells) (v .leaves .lives))
 
     pub read-one : Sole 𝓤 read.ended (read.clauses 𝓤 H A mem run) (λ κs r at. r)
     read-one _ _ _ _ _ _ _ = same (λ r. r)
@@ -209,6 +235,12 @@ module _ {M : Type 1} (𝓤 : URA M) where
 
     pub lyre-map-part-one : Sole 𝓤 lyre_map_part.ended (lyre_map_part.clauses 𝓤 H A mem run) (λ κs r at. r)
     lyre-map-part-one _ _ _ _ _ _ _ = same partOut
+
+    pub lyre-trial-open-one : Sole 𝓤 lyre_trial_open.ended (lyre_trial_open.clauses 𝓤 H A mem run) (λ κs r at. left r (now (at .0)) (now (at .1 .0)))
+    lyre-trial-open-one _ _ _ _ _ _ _ = same (λ v. left (answerOut (v .says)) (v .leaves .cells) (v .leaves .lives))
+
+    pub lyre-trial-step-one : Sole 𝓤 lyre_trial_step.ended (lyre_trial_step.clauses 𝓤 H A mem run) (λ κs r at. left r (now (at .0)) (now (at .1 .0)))
+    lyre-trial-step-one _ _ _ _ _ _ _ = same (λ v. left (answerOut (v .says)) (v .leaves .cells) (v .leaves .lives))
 
     pub lyre-hex-write-one : Sole 𝓤 lyre_hex_write.ended (lyre_hex_write.clauses 𝓤 H A mem run) (λ κs r at. filled r (now (at .1 .0)))
     lyre-hex-write-one _ _ _ _ _ _ _ = same (λ v. filled (hexOut (v .answer)) (v .left))
