@@ -105,15 +105,26 @@ static void row(const char *name, figures sum, uint64_t number)
     fflush(stdout);
 }
 
-/* Sums are compared, since a ratio printed as 1.00 may be above it. */
-static void usual_row(const char *name, figures sum, uint64_t number)
+/* The archive may take so many halves of what C takes. Sums are compared, since a ratio printed as 1.00 may be above it. */
+static void held_row(const char *name, figures sum, uint64_t number, uint64_t halves)
 {
     row(name, sum, number);
-    if (sum.archive <= sum.c)
+    if (2 * sum.archive <= halves * sum.c)
         return;
-    printf("bench: in this row the archive takes %" PRIu64 " instructions, and may take no more than the %" PRIu64 " of C\n",
-           sum.archive, sum.c);
+    printf("bench: in this row the archive takes %" PRIu64 " instructions, and may take no more than %" PRIu64 "\n", sum.archive,
+           halves * sum.c / 2);
     status = 1;
+}
+
+static void usual_row(const char *name, figures sum, uint64_t number)
+{
+    held_row(name, sum, number, 2);
+}
+
+/* What comes once in the life of a chip or of a cell. */
+static void rare_row(const char *name, figures sum, uint64_t number)
+{
+    held_row(name, sum, number, 3);
 }
 
 /* A step that changes a Low nibble takes one instruction more than one that changes a High one: pointers of two bytes are read at
@@ -204,12 +215,12 @@ static void setting_a_rows(uint64_t steps)
     snprintf(which, sizeof which, "after steps 1 to %" PRIu64, steps);
     even_rows("read", which, &read, reads_apart);
     power_rows();
-    row("open, setting A, blank image", opened, 1);
+    rare_row("open, setting A, blank image", opened, 1);
     usual_row("open, setting A, opened before", again, 1);
     lay_blank();
     open_both(setting_a);
     theirs.lives[128] = ours.lives[128] = 0;
-    row("step, setting A, one cell moved", step_both(setting_a), 1);
+    rare_row("step, setting A, one cell moved", step_both(setting_a), 1);
     worn_row();
     mended_row();
 }

@@ -1,5 +1,5 @@
 /* Compares the second maker with the archive, call by call: the answer, every cell and every life, and the guards around what
-   is lent. Use: compare SEED COUNT [FIRST]; see run.c. */
+   is lent. Use: compare SEED COUNT [FIRST]; see run.c. The calls of document 02, P6, are made by cutcompare.c. */
 
 #include "compare.h"
 
@@ -10,22 +10,15 @@
 
 #include "../include/lyre.h"
 
-enum { guard = 32, shifts = 16, codes_counted = 17 };
+enum { codes_counted = 17 };
 
-typedef struct {
-    uint8_t room[guard + shifts + largest + guard];
-    uint32_t lives_room[guard + largest + guard];
-    uint8_t *image;
-    uint32_t *lives;
-} side;
-
-static side ours, theirs;
-static places lent;
+side ours, theirs;
+places lent;
+char asked[asked_room];
 static uint8_t image_before[largest];
 static uint32_t lives_before[largest];
 
-const char program[] = "compare";
-static const char *const door_names[doors] = {"open", "read", "step", "map part"};
+static const char *const door_names[doors] = {"open", "read", "step", "map part", "trial open", "trial step"};
 static uint64_t met[doors][codes_counted], reads_mended;
 
 static const uint8_t guard_byte = 0xC3;
@@ -91,7 +84,8 @@ static void differ(const char *what, door door)
 {
     printf("DIFFERENCE: %s at the door %s, call %" PRIu64 "\n", what, door_names[door], calls);
     where();
-    printf("n %zu lives_n %zu m %zu s %zu e %zu\n", lent.n, lent.lives_n, lent.m, lent.s, lent.e);
+    printf("n %zu lives_n %zu m %zu s %zu e %zu%s\n", lent.n, lent.lives_n, lent.m, lent.s, lent.e,
+           door == door_trial_open || door == door_trial_step ? asked : "");
     printf("cells before, life in brackets where a cell has one:\n");
     for (size_t i = 0; i < lent.n; i++) {
         printf("%s%02X", i % 16 == 0 ? "\n" : " ", image_before[i]);
@@ -109,14 +103,14 @@ static void differ(const char *what, door door)
     exit(1);
 }
 
-static void remember(void)
+void remember(void)
 {
     calls += 1;
     memcpy(image_before, ours.image, lent.n);
     memcpy(lives_before, ours.lives, lent.lives_n * sizeof *lives_before);
 }
 
-static void compare_chips(door door, uint32_t code)
+void compare_chips(door door, uint32_t code)
 {
     met[door][code < codes_counted ? code : codes_counted - 1] += 1;
     if (!guards_whole(&ours) || !guards_whole(&theirs))
@@ -125,13 +119,13 @@ static void compare_chips(door door, uint32_t code)
         differ("cells", door);
     if (memcmp(ours.lives, theirs.lives, lent.lives_n * sizeof *ours.lives) != 0)
         differ("lives", door);
-    bool untouched = door == door_read || door == door_map_part || (code != 0 && code != 8 && code != 9);
+    bool untouched = door == door_read || door == door_map_part || (code != 0 && code != 8 && code != 9 && code != 11);
     if (untouched && (memcmp(image_before, theirs.image, lent.n) != 0 ||
                       memcmp(lives_before, theirs.lives, lent.lives_n * sizeof *lives_before) != 0))
         differ("cells or lives touched", door);
 }
 
-static void compare_answers(door door, second_answer mine, second_answer other)
+void compare_answers(door door, second_answer mine, second_answer other)
 {
     if (mine.code == other.code && mine.count == other.count && mine.lag == other.lag && mine.place == other.place &&
         mine.writes == other.writes && mine.tried == other.tried)
@@ -140,9 +134,6 @@ static void compare_answers(door door, second_answer mine, second_answer other)
     show("archive", other);
     differ("answer", door);
 }
-
-#define ANSWER(answer) \
-    ((second_answer){(answer).code, (answer).count, (answer).lag, (answer).place, (answer).writes, (answer).tried})
 
 second_read_answer call_read(void)
 {
@@ -197,11 +188,20 @@ second_part call_map_part(uint32_t copy)
     return mine;
 }
 
-void print_met(void)
+static bool was_called(int door)
+{
+    uint64_t all = 0;
+    for (int code = 0; code < codes_counted; code++)
+        all += met[door][code];
+    return all != 0;
+}
+
+void print_codes(void)
 {
     printf("%-9s", "code");
     for (int each = 0; each < doors; each++)
-        printf("%12s", door_names[each]);
+        if (was_called(each))
+            printf("%12s", door_names[each]);
     printf("\n");
     for (int code = 0; code < codes_counted; code++) {
         uint64_t all = 0;
@@ -211,7 +211,8 @@ void print_met(void)
             continue;
         printf("%-9d", code);
         for (int each = 0; each < doors; each++)
-            printf("%12" PRIu64, met[each][code]);
+            if (was_called(each))
+                printf("%12" PRIu64, met[each][code]);
         printf("\n");
     }
     printf("reads with a mended cell: %" PRIu64 "\n", reads_mended);

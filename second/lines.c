@@ -469,6 +469,78 @@ static void cards_on_chips(void)
     say_chip("P4 chip, mark gone, allowed 0, answer", "fitted=4294967281\nallowed=0\nruns=2\n" RUNS);
 }
 
+/* Document 02, P6. A line of a call that is cut shows the torn cell. */
+static void say_cut_open(const char *name, size_t power, uint8_t torn, size_t at)
+{
+    second_answer answer = second_trial_open(image, n, lives, n, map, start, end, power, torn);
+    say(name, answer, at, none);
+}
+
+static void say_cut_step(const char *name, size_t power, uint8_t torn, size_t at)
+{
+    second_answer answer = second_trial_step(image, n, lives, n, map, start, end, power, torn);
+    say(name, answer, at, none);
+}
+
+static void cut_opening(size_t power, uint8_t torn, size_t at, const char *cut, const char *read, const char *open)
+{
+    blank(129, 128);
+    say_cut_open(cut, power, torn, at);
+    say(read, read_it(), none, none);
+    say(open, open_it(), none, none);
+}
+
+static void cut_step(size_t power, uint8_t torn, size_t at, const char *cut, const char *read, const char *open)
+{
+    opened_a();
+    say_cut_step(cut, power, torn, at);
+    say(read, read_it(), none, none);
+    second_answer answer = open_it();
+    say(open, answer, at, none);
+}
+
+static void cut_openings(void)
+{
+    cut_opening(0, 0x00, 128, "P6 power 0 torn 00, open", "P6 power 0 torn 00, open, read", "P6 power 0 torn 00, open, open");
+    cut_opening(17, 0xFF, 4, "P6 power 17 torn FF, open", "P6 power 17 torn FF, open, read", "P6 power 17 torn FF, open, open");
+    cut_opening(39, 0x00, 2, "P6 power 39 torn 00, open", "P6 power 39 torn 00, open, read", "P6 power 39 torn 00, open, open");
+    cut_opening(39, 0x5A, 2, "P6 power 39 torn 5A, open", "P6 power 39 torn 5A, open, read", "P6 power 39 torn 5A, open, open");
+    blank(129, 128);
+    say_cut_open("P6 power 40 torn 00, open", 40, 0x00, 2);
+}
+
+static void cut_steps(void)
+{
+    cut_step(0, 0x01, 128, "P6 power 0 torn 01, step", "P6 power 0 torn 01, step, read", "P6 power 0 torn 01, step, open");
+    cut_step(0, 0x81, 128, "P6 power 0 torn 81, step", "P6 power 0 torn 81, step, read", "P6 power 0 torn 81, step, open");
+    cut_step(0, 0x06, 128, "P6 power 0 torn 06, step", "P6 power 0 torn 06, step, read", "P6 power 0 torn 06, step, open");
+    cut_step(0, 0xCB, 128, "P6 power 0 torn CB, step", "P6 power 0 torn CB, step, read", "P6 power 0 torn CB, step, open");
+    cut_step(1, 0xFF, 125, "P6 power 1 torn FF, step", "P6 power 1 torn FF, step, read", "P6 power 1 torn FF, step, open");
+    cut_step(1, 0x07, 125, "P6 power 1 torn 07, step", "P6 power 1 torn 07, step, read", "P6 power 1 torn 07, step, open");
+    cut_step(1, 0x80, 125, "P6 power 1 torn 80, step", "P6 power 1 torn 80, step, read", "P6 power 1 torn 80, step, open");
+    cut_step(1, 0xCB, 125, "P6 power 1 torn CB, step", "P6 power 1 torn CB, step, read", "P6 power 1 torn CB, step, open");
+    opened_a();
+    say_cut_step("P6 power 2 torn CB, step", 2, 0xCB, 125);
+}
+
+static void cut_moves(void)
+{
+    opened_a();
+    lives[128] = 0;
+    say_cut_step("P6 128 worn, power 0 torn 07, step", 0, 0x07, 128);
+    say_cut_step("P6 128 worn, power 1 torn CB, step", 1, 0xCB, 122);
+    say("P6 128 worn, power 1 torn CB, step, read", read_it(), none, none);
+    opened_a();
+    lives[128] = 0;
+    say_cut_step("P6 128 worn, power 2 torn FF, step", 2, 0xFF, 3);
+    say("P6 128 worn, power 2 torn FF, step, read", read_it(), none, none);
+    opened_a();
+    image[1] = 0xFF;
+    say_cut_step("P6 mark gone, power 0, step", 0, 0x00, none);
+    opened_a();
+    say_cut_open("P6 opened, power 0, open", 0, 0x00, none);
+}
+
 int main(void)
 {
     bench_list();
@@ -489,5 +561,8 @@ int main(void)
     malformed_cards();
     rows();
     cards_on_chips();
+    cut_openings();
+    cut_steps();
+    cut_moves();
     return 0;
 }

@@ -63,7 +63,15 @@ typedef struct {
     uint32_t *lives;
     size_t m, s, e;
     uint64_t writes, tried;
+    /* Document 02, P6: cell writes that there is power for, what the write after them leaves, and once it was asked for, where. */
+    size_t power;
+    uint8_t torn;
+    bool cut;
+    size_t cut_at;
 } chip;
+
+/* For a call that is on no trial: no call asks for so many writes. */
+static const size_t power_without_end = SIZE_MAX;
 
 /* Written without sums that could pass the type's top. */
 static bool places_good(size_t n, size_t m, size_t s, size_t e)
@@ -81,15 +89,28 @@ static bool places_good(size_t n, size_t m, size_t s, size_t e)
     return m + map_cells <= s || e < m;
 }
 
-static bool put(chip *chip, size_t address, uint8_t byte)
+static void write_cell(chip *chip, size_t address, uint8_t byte)
 {
-    if (chip->image[address] == byte)
-        return true;
-    chip->writes += 1;
     if (chip->lives[address] >= 1) {
         chip->image[address] = byte;
         chip->lives[address] -= 1;
     }
+}
+
+/* A put whose write is torn does not hold, whatever it leaves: nobody is there to read it back. */
+static bool put(chip *chip, size_t address, uint8_t byte)
+{
+    if (chip->image[address] == byte)
+        return true;
+    if (chip->power == 0) {
+        write_cell(chip, address, chip->torn);
+        chip->cut = true;
+        chip->cut_at = address;
+        return false;
+    }
+    chip->power -= 1;
+    chip->writes += 1;
+    write_cell(chip, address, byte);
     return chip->image[address] == byte;
 }
 
@@ -171,12 +192,12 @@ static bool may_be_tried(const chip *chip, const size_t *addresses, int known, b
     return true;
 }
 
-/* Walks the spares of a kind until one takes the byte. The first is found once; from there the walk goes on, or a bad cell
-   would be tried for ever. Going down it stops at s - 1, which is at least 0. */
+/* Walks the spares of a kind until one takes the byte or the power is lost. The first is found once; from there the walk goes on, or
+   a bad cell would be tried for ever. Going down it stops at s - 1, which is at least 0. */
 static bool take_spare(chip *chip, const size_t *addresses, int known, bool low, uint8_t byte, size_t *taken)
 {
     size_t address = next_address(chip, addresses, known, low);
-    while (may_be_tried(chip, addresses, known, low, address)) {
+    while (!chip->cut && may_be_tried(chip, addresses, known, low, address)) {
         chip->tried += 1;
         if (put(chip, address, byte)) {
             *taken = address;
@@ -194,8 +215,11 @@ static second_answer refuse(uint32_t code, uint64_t place)
     return (second_answer){.code = code, .place = place};
 }
 
+/* Work that ends before its end. Where the power was lost, that is why, and not what did not hold. */
 static second_answer refuse_at_work(const chip *chip, uint32_t code, uint64_t place)
 {
+    if (chip->cut)
+        return refuse(11, chip->cut_at);
     return (second_answer){.code = code, .place = place, .writes = chip->writes, .tried = chip->tried};
 }
 
@@ -248,7 +272,7 @@ static bool put_pointer(chip *chip, int pointer, size_t address, size_t *failed)
     return !is_low(pointer) || put(chip, cell + 1, (uint8_t)(address >> 8));
 }
 
-/* Answers code 0, or refusal 8 or 9. */
+/* Answers code 0, or refusal 8, 9 or 11. */
 static second_answer store(chip *chip, uint32_t count)
 {
     for (int pointer = 0; pointer < all_pointers; pointer++) {
@@ -287,18 +311,17 @@ static second_answer open_first(chip *chip)
     return (second_answer){.writes = chip->writes};
 }
 
-second_answer second_open(uint8_t *image, size_t n, uint32_t *lives, size_t lives_n, size_t m, size_t s, size_t e)
+static second_answer open_chip(chip chip, size_t n, size_t lives_n)
 {
     if (n < 41 || n > 4096 || lives_n != n)
         return refuse(1, 0);
-    if (!places_good(n, m, s, e))
+    if (!places_good(n, chip.m, chip.s, chip.e))
         return refuse(2, 0);
-    chip chip = {.image = image, .lives = lives, .m = m, .s = s, .e = e};
-    if (!mark_there(image, m))
+    if (!mark_there(chip.image, chip.m))
         return open_first(&chip);
-    if (!map_sound(image, m, s, e))
+    if (!map_sound(chip.image, chip.m, chip.s, chip.e))
         return refuse(4, 0);
-    second_answer answer = read_count(image, m);
+    second_answer answer = read_count(chip.image, chip.m);
     if (answer.code != 0)
         return answer;
     second_answer stored = store(&chip, answer.count);
@@ -330,16 +353,15 @@ second_read_answer second_read(const uint8_t *image, size_t n, size_t m, size_t 
     return read;
 }
 
-second_answer second_step(uint8_t *image, size_t n, uint32_t *lives, size_t lives_n, size_t m, size_t s, size_t e)
+static second_answer step_chip(chip chip, size_t n, size_t lives_n)
 {
     if (n < 41 || n > 4096 || lives_n != n)
         return refuse(1, 0);
-    second_answer answer = read_chip(image, n, m, s, e);
+    second_answer answer = read_chip(chip.image, n, chip.m, chip.s, chip.e);
     if (answer.code != 0)
         return answer;
     if (answer.count == UINT32_MAX)
         return refuse(7, 0);
-    chip chip = {.image = image, .lives = lives, .m = m, .s = s, .e = e};
     /* What lags is settled first: a stop inside the second store then leaves lag 1 and never 2. */
     second_answer stored = store(&chip, answer.count);
     if (stored.code == 0)
@@ -350,6 +372,32 @@ second_answer second_step(uint8_t *image, size_t n, uint32_t *lives, size_t live
     answer.writes = chip.writes;
     answer.tried = chip.tried;
     return answer;
+}
+
+second_answer second_open(uint8_t *image, size_t n, uint32_t *lives, size_t lives_n, size_t m, size_t s, size_t e)
+{
+    chip chip = {.image = image, .lives = lives, .m = m, .s = s, .e = e, .power = power_without_end};
+    return open_chip(chip, n, lives_n);
+}
+
+second_answer second_step(uint8_t *image, size_t n, uint32_t *lives, size_t lives_n, size_t m, size_t s, size_t e)
+{
+    chip chip = {.image = image, .lives = lives, .m = m, .s = s, .e = e, .power = power_without_end};
+    return step_chip(chip, n, lives_n);
+}
+
+second_answer second_trial_open(uint8_t *image, size_t n, uint32_t *lives, size_t lives_n, size_t m, size_t s, size_t e,
+                                size_t power, uint8_t torn)
+{
+    chip chip = {.image = image, .lives = lives, .m = m, .s = s, .e = e, .power = power, .torn = torn};
+    return open_chip(chip, n, lives_n);
+}
+
+second_answer second_trial_step(uint8_t *image, size_t n, uint32_t *lives, size_t lives_n, size_t m, size_t s, size_t e,
+                                size_t power, uint8_t torn)
+{
+    chip chip = {.image = image, .lives = lives, .m = m, .s = s, .e = e, .power = power, .torn = torn};
+    return step_chip(chip, n, lives_n);
 }
 
 second_part second_map_part(const uint8_t *image, size_t n, size_t m, size_t s, size_t e, uint32_t copy)

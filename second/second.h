@@ -29,6 +29,13 @@ typedef struct {
 second_answer second_open(uint8_t *image, size_t n, uint32_t *lives, size_t lives_n, size_t m, size_t s, size_t e);
 second_read_answer second_read(const uint8_t *image, size_t n, size_t m, size_t s, size_t e);
 second_answer second_step(uint8_t *image, size_t n, uint32_t *lives, size_t lives_n, size_t m, size_t s, size_t e);
+
+/* Document 02, P6: an open and a step with power for so many cell writes. The write after them leaves the torn byte. */
+second_answer second_trial_open(uint8_t *image, size_t n, uint32_t *lives, size_t lives_n, size_t m, size_t s, size_t e,
+                                size_t power, uint8_t torn);
+second_answer second_trial_step(uint8_t *image, size_t n, uint32_t *lives, size_t lives_n, size_t m, size_t s, size_t e,
+                                size_t power, uint8_t torn);
+
 second_part second_map_part(const uint8_t *image, size_t n, size_t m, size_t s, size_t e, uint32_t copy);
 
 #endif
