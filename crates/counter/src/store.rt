@@ -50,7 +50,8 @@ pub struct Stored {
     pub tried: usize,
 }
 
-// A piece of storing behind work that took so many writes and tries. Of storing that was cut they are of no account, and wrap where they must.
+// A piece of storing behind work that took so many writes and tries. Of storing that was cut these are of no account, so that the
+// sums may wrap.
 pub(crate) fn behind(writes: usize, tried: usize, stored: Stored) -> Stored
     ensures { λ r. ⌜ Behind writes tried stored r ⌝ }
 {
