@@ -2,6 +2,7 @@
 --   at      the value at a place of the list is the function's
 --   agree   two functions whose lists are equal are equal at each number of the list
 --   alike   two functions that are equal at each number of the list have equal lists
+--   long    the list is as long as it is asked to be
 --   filled  a list with the function's values is its list
 use mathlib.Core.Path.{_≡_, refl, sym, ap, _∙_}
 use mathlib.Core.List.{List, _∷_}
@@ -36,7 +37,8 @@ module _ {A : Type 0} where
   pub alike : (f g : ℕ → A) (n : ℕ) → ((k : ℕ) → k < n → f k ≡ g k) → tabulate f 0 n ≡ tabulate g 0 n
   alike f g n same = alike-from f g 0 n (λ k low high. same k (omega arith))
 
-  long : (f : ℕ → A) (i n : ℕ) → length (tabulate f i n) ≡ n
+  -- the list is as long as it is asked to be
+  pub long : (f : ℕ → A) (i n : ℕ) → length (tabulate f i n) ≡ n
   long f i zero = refl
   long f i (suc n) = ap suc (long f (suc i) n)
 

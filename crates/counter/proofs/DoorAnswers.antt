@@ -9,9 +9,11 @@
 --   open-is, step-is          the outcomes of open and step are those of their work
 --   trial-open-is, trial-step-is  those of their trials are that work, cut
 --   read-is, read-good, read-refused  the answer of read is that of its verdict, and what a good one and a refusal say
+--   read-uncounted            a read that is refused answers count 0
+--   read-unsized, read-unplaced  1 where the length is not good, and else 2 where the settings are not
 use Prim.Native.Nat.{ℕ, _≤_}
 use mathlib.Core.Path.{_≡_, refl, ap}
-use mathlib.Core.Bool.{false, true≢false}
+use mathlib.Core.Bool.{true, false, true≢false}
 use mathlib.Core.List.{List}
 use native.Mathlib.Omega.{arith}
 use lib.IntN.{ℤ}
@@ -26,6 +28,7 @@ use Rattle.counter.specs.declared.verdict.Refusal.the-variants.{BadLengt
 use Rattle.counter.specs.declared.verdict.Verdict.{Verdict}
 use Rattle.counter.specs.declared.verdict.Verdict.the-variants.{Good, Refused}
 use Rattle.counter.specs.Layout.{Layout}
+use Rattle.counter.specs.Places.{lengthGood, placesGood}
 use Rattle.counter.specs.Verdict.{answer, refusalOf, answerOf, outcomeOf}
 use Rattle.counter.specs.Reading.{verdictOf}
 use Rattle.counter.proofs.GoodVerdicts.{ofStoring, cells-reads}
@@ -48,6 +51,21 @@ refusal-code LastCount w t = omega arith
 refusal-code (NoSpare k) w t = omega arith
 refusal-code (MapByte a) w t = omega arith
 refusal-code (PowerLost a) w t = omega arith
+
+-- and count 0
+refusal-uncounted : (why : Refusal) (writes tried : ℕ) → refusalOf why writes tried .count ≡ 0
+refusal-uncounted BadLength w t = refl
+refusal-uncounted BadPlaces w t = refl
+refusal-uncounted NoMark w t = refl
+refusal-uncounted UnsoundMap w t = refl
+refusal-uncounted BadCopy w t = refl
+refusal-uncounted (TwoCodes n) w t = refl
+refusal-uncounted (LostNibble n) w t = refl
+refusal-uncounted (Apart lag) w t = refl
+refusal-uncounted LastCount w t = refl
+refusal-uncounted (NoSpare k) w t = refl
+refusal-uncounted (MapByte a) w t = refl
+refusal-uncounted (PowerLost a) w t = refl
 
 pub code-good : (v : Verdict) (writes tried : ℕ) → answerOf v writes tried .code ≡ 0 → (c : ℕ) × (lag : ℤ) × (v ≡ Good c lag)
 unfolding answerOf
@@ -128,6 +146,23 @@ module _ (layout : Layout) (p : Places) where
   pub read-refused : {why : Refusal} (cells : List ℕ) → verdictOf layout p cells ≡ Refused why → readOf layout p cells ≡ refusalOf why 0 0
   unfolding readOf answerOf
   read-refused cells e = rw e
+
+  -- a read that is refused answers count 0
+  pub read-uncounted : (cells : List ℕ) → (readOf layout p cells .code ≡ 0 → ⊥) → readOf layout p cells .count ≡ 0
+  read-uncounted cells = go (verdictOf layout p cells) refl
+    where
+      go : (v : Verdict) → verdictOf layout p cells ≡ v → (readOf layout p cells .code ≡ 0 → ⊥) → readOf layout p cells .count ≡ 0
+      go (Good c lag) e h = absurd (h (ap (λ (a : Answer). a .code) (read-good cells e)))
+      go (Refused why) e h = rw (read-refused cells e) (refusal-uncounted why 0 0)
+
+  pub read-unsized : (cells : List ℕ) → lengthGood layout (length cells) ≡ false → readOf layout p cells .code ≡ 1
+  unfolding readOf answerOf verdictOf
+  read-unsized cells unsized = rw unsized
+
+  pub read-unplaced : (cells : List ℕ) → lengthGood layout (length cells) ≡ true → placesGood layout (length cells) p ≡ false
+      → readOf layout p cells .code ≡ 2
+  unfolding readOf answerOf verdictOf
+  read-unplaced cells sized unplaced = rw (sized, unplaced)
 
   -- read is never refused 11
   pub read-lit : (cells : List ℕ) → readOf layout p cells .code ≡ 11 → ⊥

@@ -1,5 +1,5 @@
-// The four doors (document 01, "Storing, opening, stepping" and "What comes back"; document 02, P1). None of them asks anything
-// of its caller: every image, setting and life has its answer.
+// The four doors (document 01, "Storing, opening, stepping" and "What comes back"; document 02, P1), and two of them without a part of
+// what they give. None asks anything of its caller: every image, setting and life has its answer.
 ghost use mathlib.Core.Path.{_≡_};
 ghost use mathlib.Core.Bool.{true};
 ghost use Prim.Native.Nat.{_+_, _<_};
@@ -11,7 +11,7 @@ ghost use Rattle.counter.specs.Layout.{two};
 ghost use Rattle.counter.specs.Places.{places};
 ghost use Rattle.counter.specs.Map.{mapIn, pointerOf, sound};
 ghost use Rattle.counter.specs.Verdict.{ending, answerOf, outcome, outcomeOf};
-ghost use Rattle.counter.specs.Doors.{lastCount, beginning, reopening, stepping, partVerdict, mapPartOf, Opens, Steps, Reads, HandsBack};
+ghost use Rattle.counter.specs.Doors.{lastCount, beginning, reopening, stepping, readOf, partVerdict, mapPartOf, Opens, Steps, Reads, HandsBack};
 ghost use Rattle.counter.specs.Trials.{cutOutcome};
 ghost use Rattle.counter.specs.Inside.{fitted, standingOf, Holds};
 use super::layout::TWO;
@@ -68,6 +68,20 @@ pub fn read(image: &[u8], m: usize, s: usize, e: usize) -> ReadAnswer
         answer: answer_of(verdict, 0, 0),
         bits,
     }
+}
+
+// What read answers, without the work of telling which bits were mended.
+pub fn read_count(image: &[u8], m: usize, s: usize, e: usize) -> Answer
+    ensures { λ r. ⌜ r ≡ readOf two (places m s e) (now (image .entry)) ⌝ }
+{
+    let p = Places {
+        map: m,
+        start: s,
+        end: e,
+    };
+    let found = verdict_of(image, p);
+    let verdict = found.verdict;
+    answer_of(verdict, 0, 0)
 }
 
 // The answer of a call that ends so when its storing is done.
