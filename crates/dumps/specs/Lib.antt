@@ -1,0 +1,2 @@
+pub mod Tray
+pub mod Images
