@@ -193,8 +193,7 @@ fn own_fault(card: Card) -> u32
 pub fn answer_of_chip(card: Card, image: &[u8], m: usize, s: usize, e: usize) -> ChipAnswer
     ensures { λ r. ⌜ r ≡ chipAnswerOf (card .runs) (cardIn card) (counted two (places m s e) (now (image .entry))) ⌝ }
 {
-    let read = counter::doors::read(image, m, s, e);
-    let found = read.answer;
+    let found = counter::doors::read_count(image, m, s, e);
     if found.code != 0 {
         return ChipAnswer {
             read: found.code,

@@ -28,10 +28,9 @@ fn answer(text: &[u8], image: &[u8]) -> ChipAnswer
 {
     let read = card::read_card(text);
     if read.code != 0 {
-        let found = counter::doors::read(image, MAP, START, END);
-        let answer = found.answer;
+        let found = counter::doors::read_count(image, MAP, START, END);
         return ChipAnswer {
-            read: answer.code,
+            read: found.code,
             answer: Answer {
                 code: read.code,
                 used: 0,

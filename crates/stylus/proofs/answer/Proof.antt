@@ -1,8 +1,6 @@
 -- `answer` meets its contract: what the card that was read answers, or the refusal of the reading beside the code of the chip's read.
-use mathlib.Core.Path.{ap}
 use borrow.Author.Needs.{needs}
 use denote.Ref.{now}
-use Rattle.counter.specs.declared.doors.ReadAnswer.{ReadAnswer}
 use Rattle.counter.specs.Layout.{two}
 use Rattle.counter.specs.Places.{settingA}
 use Rattle.counter.specs.Doors.{readOf}
@@ -13,12 +11,11 @@ use Rattle.stylus.proofs.answer.Tie as tie
 
 returns : tie.Need-returns
 returns c =
-    let found = ap (λ (r : ReadAnswer). r .answer) (c .before .read .ensures) in
-    let tested = c .before .before in
+    let tested = c .before in
     let read = tested .before .before in
     let cells = now (read .before .before .before .args .image) in
     told-not (λ runs card. chipAnswerOf runs card (readOf two settingA cells)) (chipRefused (readOf two settingA cells)) (chip-own (readOf two settingA cells))
-    (read .read-card .ensures) (tested .if1 .taken) (λ i. chipRefused (found i) (read .read-card .result .code))
+    (read .read-card .ensures) (tested .if1 .taken) (λ i. chipRefused (c .read-count .ensures i) (read .read-card .result .code))
 
 returns-2 : tie.Need-returns-2
 returns-2 c =
