@@ -1,12 +1,13 @@
-/* The doors for C of the turn counter, a 32-bit count kept in an EEPROM image by the scheme of AN1449; of Intel HEX, by which an
-   image comes and goes as text; and of the stylus card, which says how many of these turns a sapphire has had; as documents 01 and
-   02 set them down. The archive is liblyre.a.
+/* The doors for C of the turn counter, a 32-bit count kept in an EEPROM image by the scheme of AN1449, and of a tray of such images;
+   of Intel HEX, by which an image comes and goes as text; and of the stylus card, which says how many of these turns a sapphire has
+   had; as documents 01 and 02 set them down. The archive is liblyre.a.
 
    What a caller owes:
    - the archive holds x86-64 code, called by the System V convention: the stack is aligned to 16 bytes at the call, as a C
      compiler does without being asked;
-   - image points to n bytes, lives to lives_n numbers, speeds and turns to speeds_n and turns_n, and text to room or length bytes,
-     none of them null, even where a length is 0; numbers are aligned as uint32_t asks;
+   - image points to n bytes, lives to lives_n numbers, tray to length bytes, counts and codes to counts_n and codes_n numbers, speeds
+     and turns to speeds_n and turns_n, and text to room or length bytes, none of them null, even where a length is 0; numbers are
+     aligned as uint32_t asks;
    - a buffer that is written into overlaps no other of the call, and nobody else uses them meanwhile;
    - a stack of 16 KB, of which lyre_hex_read takes the most, nearly 10.
    Every length, place and content is allowed besides: what is not good is refused with a number. No function of the C library
@@ -45,6 +46,7 @@ extern "C" {
    10  a byte one bit from two codes; place is the nibble (never met: no two codes are that near)
    11  the power was lost in a write: place is the cell's address, and cells and lives stay as written so far. Only the two trials,
        lyre_trial_open and lyre_trial_step, answer this
+   12  no tray, or a row that is too short for it. Only lyre_tray answers this, and it answers nothing else but 0
    16  a copy other than 1 or 2 was asked of lyre_map_part */
 
 typedef struct {
@@ -141,6 +143,15 @@ lyre_answer lyre_trial_open(uint8_t *image, size_t n, uint32_t *lives, size_t li
 /* The same of lyre_step. What lyre_read and lyre_open answer then is in docs/POWER.md. */
 lyre_answer lyre_trial_step(uint8_t *image, size_t n, uint32_t *lives, size_t lives_n, size_t m, size_t s, size_t e, size_t power,
                             uint8_t torn);
+
+/* Reads a tray of dumps: 1 to 64 images one behind another, each of `each` bytes and all with the same m, s and e. Entry i of counts
+   and of codes, the first being 0, becomes the count and the code that lyre_read answers of image i alone. An image that lyre_read
+   refuses has its own code there and count 0, and those behind it are read all the same; so where `each` is outside 41..4096 and not
+   0, every code becomes 1. Entries past the number of images stay as they were, and the tray is not written to.
+   Answers 0; or 12 where `each` is 0, length is not a whole number of images from 1 to 64, or a row is shorter than that number. Then
+   both rows stay as they were. */
+uint32_t lyre_tray(const uint8_t *tray, size_t length, size_t each, size_t m, size_t s, size_t e, uint32_t *counts, size_t counts_n,
+                   uint32_t *codes, size_t codes_n);
 
 /* Writes any n bytes as Intel HEX: records of 16 bytes in rising order, capital digits, a line feed behind each line, and the end
    record. What stands in text past the part written is kept. */

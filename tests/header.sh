@@ -9,18 +9,19 @@ lay() {
     tr -s ' \n' ' ' | sed -E 's/ ?([(){;]) ?/\1/g; s/,?\)/)/g' | grep -oE "$1" || true
 }
 
-# A slice is a pointer and a length; an image's length is called n, and a text's room where it is written into, length where it is
-# read.
+# A slice is a pointer and a length; an image's length is called n, a text's room where it is written into, and that of a text or a
+# tray that is read, length.
 sed 's:^ *//.*::' "$root/crates/lyre/src/lib.rt" |
-    lay '#\[repr\(C\)\] pub struct [^}]*\}|#\[no_mangle\] pub extern "C" fn [^)]*\)-> [A-Za-z]+' |
+    lay '#\[repr\(C\)\] pub struct [^}]*\}|#\[no_mangle\] pub extern "C" fn [^)]*\)-> \w+' |
     sed -E '
         s/([a-z])([A-Z])/\1_\2/g
         s/#\[repr\(C\)\] pub struct (\w+)\{(.*)\}/typedef struct{\2} lyre_\L\1;/
         s/#\[no_mangle\] pub extern "C" fn (\w+)\((.*)\)-> (\w+)/lyre_\L\3\E \1(\2);/
+        s/^lyre_u32 /uint32_t /
         s/(\w+): &mut \[u(8|32)\]/uint\2_t *\1, size_t \1_n/g
         s/(\w+): &\[u(8|32)\]/const uint\2_t *\1, size_t \1_n/g
         s/image_n/n/
-        s/(const uint8_t \*text, size_t) text_n/\1 length/
+        s/(const uint8_t \*(text|tray), size_t) \2_n/\1 length/
         s/(uint8_t \*text, size_t) text_n/\1 room/
         s/(pub )?(\w+): \[u32; ?([0-9]+)\]/uint32_t \2[\3]/g
         s/(pub )?(\w+): u(8|32|64)/uint\3_t \2/g
@@ -29,7 +30,7 @@ sed 's:^ *//.*::' "$root/crates/lyre/src/lib.rt" |
         /^typedef/s/, ?/;/g' >"$work/source"
 sed -E '/^#/d; s:/\*[^*]*\*/::g; /\/\*/,/\*\//d' "$root/include/lyre.h" |
     lay 'typedef struct\{[^}]*\} \w+;|[^;{}]*\([^)]*\);' >"$work/header"
-[ "$(wc -l <"$work/source")" -eq 16 ] || { echo 'header: not sixteen exports in the source'; cat "$work/source"; exit 1; }
+[ "$(wc -l <"$work/source")" -eq 17 ] || { echo 'header: not seventeen exports in the source'; cat "$work/source"; exit 1; }
 diff "$work/source" "$work/header" || { echo 'header: lyre.h (>) is not what the source exports (<)'; exit 1; }
 
 $compiler -fsyntax-only -x c - <<C

@@ -8,6 +8,8 @@ use super::chips::read;
 use super::chips::step;
 use super::chips::trial_open;
 use super::chips::trial_step;
+use super::texts::Text;
+use super::texts::read_tray;
 use card::Card;
 use counter::verdict::Answer;
 use libc::STDOUT_FILENO;
@@ -182,4 +184,30 @@ pub(crate) fn say_chip(name: &[u8], card: Card, chip: Chip) {
     print_number(b": read=", told.read as u64);
     print_number(b" code=", answer.code as u64);
     print_turns(answer);
+}
+
+fn print_row(key: &[u8], row: [u32; 64]) {
+    print_count(key, row[0]);
+    print_count(b",", row[1]);
+    print_count(b",", row[2]);
+    print_count(b",", row[3]);
+}
+
+// What a tray leaves, with the first four entries of its rows.
+pub(crate) fn say_tray(
+    name: &[u8],
+    tray: Text,
+    each: usize,
+    end: usize,
+    counted: usize,
+    coded: usize,
+) {
+    let left = read_tray(tray, each, end, counted, coded);
+    let counts = left.counts;
+    let codes = left.codes;
+    io::write_all(STDOUT_FILENO, name);
+    print_number(b": code=", left.code as u64);
+    print_row(b" counts=", counts);
+    print_row(b" codes=", codes);
+    io::write_all(STDOUT_FILENO, b"\n");
 }

@@ -9,6 +9,7 @@ mod hexes;
 mod lines;
 mod mended;
 mod texts;
+mod trays;
 mod trials;
 
 fn main() {
@@ -19,4 +20,5 @@ fn main() {
     erased::cases();
     cards::cases();
     trials::cases();
+    trays::cases();
 }

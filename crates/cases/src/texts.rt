@@ -1,7 +1,9 @@
 // The texts of the cases: Intel HEX written from a chip and read into a chip, cards written and read, and texts put together and
-// damaged. A text goes by value, as a chip does.
+// damaged. A text goes by value, as a chip does. A tray of dumps is one too.
 ghost use Prim.Native.Nat.{_≤_};
 use super::chips::Chip;
+use super::chips::MAP;
+use super::chips::START;
 use super::chips::at_most_largest;
 use card::Card;
 
@@ -30,6 +32,13 @@ pub struct WrittenCard {
 pub struct Taken {
     pub answer: hex::Answer,
     pub chip: Chip,
+}
+
+// What a tray leaves: its code, and the rows.
+pub struct Entries {
+    pub code: u32,
+    pub counts: [u32; 64],
+    pub codes: [u32; 64],
 }
 
 // No text has more signs than the longest.
@@ -91,6 +100,53 @@ pub(crate) fn answer(text: Text, count: u32) -> card::Answer {
     let signs = text.signs;
     let length = at_most_longest(text.length);
     card::answer_of_text(&signs[..length], count)
+}
+
+// No row has more entries than a tray has images.
+fn at_most_64(room: usize) -> usize
+    ensures { λ r. ⌜ r ≤ 64 ⌝ }
+{
+    if room < 64 {
+        return room;
+    }
+    64
+}
+
+// Reads a tray into rows of so many entries, which are 9 before.
+pub(crate) fn read_tray(
+    tray: Text,
+    each: usize,
+    end: usize,
+    counted: usize,
+    coded: usize,
+) -> Entries {
+    let signs = tray.signs;
+    let length = at_most_longest(tray.length);
+    let mut counts = [9u32; 64];
+    let mut codes = [9u32; 64];
+    let first = at_most_64(counted);
+    let second = at_most_64(coded);
+    let code = dumps::tray::read_tray(
+        &signs[..length],
+        each,
+        MAP,
+        START,
+        end,
+        &mut counts[..first],
+        &mut codes[..second],
+    );
+    Entries {
+        code,
+        counts,
+        codes,
+    }
+}
+
+// A tray with a chip's image behind it.
+pub(crate) fn lay(tray: Text, chip: Chip) -> Text {
+    let image = chip.image;
+    let n = at_most_largest(chip.size);
+    add(tray, &image[..n])
 }
 
 pub(crate) fn empty() -> Text {

@@ -1,16 +1,17 @@
-// The doors for C, as include/lyre.h declares them. Each hands its arguments to a door of the counter, of hex or of card, and
-// promises what that door promises.
+// The doors for C, as include/lyre.h declares them. Each hands its arguments to a door of the counter, of hex, of card or of dumps,
+// and promises what that door promises.
 ghost use mathlib.Core.Path.{_≡_};
 ghost use lib.ListN.{length};
 ghost use Rattle.cells.specs.Chip.{chip};
 ghost use Rattle.counter.specs.Layout.{two};
 ghost use Rattle.counter.specs.Places.{places};
-ghost use Rattle.counter.specs.Doors.{Opens, Steps, Reads, mapPartOf};
+ghost use Rattle.counter.specs.Doors.{Opens, Steps, Reads, readOf as counted, mapPartOf};
 ghost use Rattle.counter.specs.Trials.{TrialOpens, TrialSteps};
 ghost use Rattle.hex.specs.Doors.{outcome, writeOf, readOf};
 ghost use Rattle.card.specs.Cards.{card as cardOf};
 ghost use Rattle.card.specs.Answers.{refused, answerOf};
 ghost use Rattle.card.specs.Doors.{Told, outcome as wrote, writeOf as writeCardOf};
+ghost use Rattle.dumps.specs.Tray.{outcome as filled, trayOf};
 ghost use Rattle.lyre.specs.Plain.{answerIn, readAnswerIn, partIn, hexIn, cardAnswerIn};
 
 // lyre_answer.
@@ -172,6 +173,22 @@ pub extern "C" fn lyre_trial_step(
     ensures { λ r. ⌜ TrialSteps (places m s e) power torn (chip (now (image .entry)) (now (lives .entry))) (answerIn r) (chip (now (image .exit)) (now (lives .exit))) ⌝ }
 {
     plain(counter::trials::trial_step(image, lives, m, s, e, power, torn))
+}
+
+// Reads every image of a tray into two rows.
+#[no_mangle]
+pub extern "C" fn lyre_tray(
+    tray: &[u8],
+    each: usize,
+    m: usize,
+    s: usize,
+    e: usize,
+    counts: &mut [u32],
+    codes: &mut [u32],
+) -> u32
+    ensures { λ r. ⌜ filled r (now (counts .exit)) (now (codes .exit)) ≡ trayOf (counted two (places m s e)) each (now (tray .entry)) (now (counts .entry)) (now (codes .entry)) ⌝ }
+{
+    dumps::tray::read_tray(tray, each, m, s, e, counts, codes)
 }
 
 // The answer of Intel HEX, laid out for C.

@@ -41,6 +41,7 @@ use Rattle.cells.proofs.row.walk
 use Rattle.cells.proofs.row.put_row
 use Rattle.counter.proofs.doors.open as opens
 use Rattle.counter.proofs.doors.read
+use Rattle.counter.proofs.doors.read_count
 use Rattle.counter.proofs.doors.step
 use Rattle.counter.proofs.doors.part_of
 use Rattle.counter.proofs.doors.map_part
@@ -65,6 +66,7 @@ use Rattle.lyre.proofs.lyre_hex_write
 use Rattle.lyre.proofs.lyre_hex_read
 use Rattle.lyre.proofs.lyre_card_at
 use Rattle.lyre.proofs.lyre_card_write
+use Rattle.lyre.proofs.lyre_tray
 use Rattle.hex.specs.declared.Answer as hex
 use Rattle.hex.proofs.write_image
 use Rattle.hex.proofs.read_image
@@ -77,6 +79,8 @@ use Rattle.card.proofs.read_card
 use Rattle.card.proofs.answer_at
 use Rattle.card.proofs.answer_of_text
 use Rattle.card.proofs.answer_of_chip
+use Rattle.dumps.specs.Tray.{outcome}
+use Rattle.dumps.proofs.tray.read_tray
 use Rattle.text.specs.Text.{Wrote}
 use Rattle.text.specs.Reading.{Small}
 use Rattle.text.proofs.Forms.{line-ends, finds-one}
@@ -218,6 +222,9 @@ module _ {M : Type 1} (𝓤 : URA M) where
     pub read-one : Sole 𝓤 read.ended (read.clauses 𝓤 H A mem run) (λ κs r at. r)
     read-one _ _ _ _ _ _ _ = same (λ r. r)
 
+    pub read-count-one : Sole 𝓤 read_count.ended (read_count.clauses 𝓤 H A mem run) (λ κs r at. r)
+    read-count-one _ _ _ _ _ _ _ = same (λ r. r)
+
     pub part-of-one : Sole 𝓤 part_of.ended (part_of.clauses 𝓤 H A mem run) (λ κs r at. r)
     part-of-one _ _ _ _ _ _ _ = same (λ r. r)
 
@@ -241,6 +248,9 @@ module _ {M : Type 1} (𝓤 : URA M) where
 
     pub lyre-trial-step-one : Sole 𝓤 lyre_trial_step.ended (lyre_trial_step.clauses 𝓤 H A mem run) (λ κs r at. left r (now (at .0)) (now (at .1 .0)))
     lyre-trial-step-one _ _ _ _ _ _ _ = same (λ v. left (answerOut (v .says)) (v .leaves .cells) (v .leaves .lives))
+
+    pub lyre-tray-one : Sole 𝓤 lyre_tray.ended (lyre_tray.clauses 𝓤 H A mem run) (λ κs r at. outcome r (now (at .1 .1 .1 .1 .1 .0)) (now (at .1 .1 .1 .1 .1 .1 .0)))
+    lyre-tray-one _ _ _ _ _ _ _ = same (λ v. v)
 
     pub lyre-hex-write-one : Sole 𝓤 lyre_hex_write.ended (lyre_hex_write.clauses 𝓤 H A mem run) (λ κs r at. filled r (now (at .1 .0)))
     lyre-hex-write-one _ _ _ _ _ _ _ = same (λ v. filled (hexOut (v .answer)) (v .left))
@@ -301,3 +311,6 @@ module _ {M : Type 1} (𝓤 : URA M) where
 
     pub answer-of-chip-one : Sole 𝓤 answer_of_chip.ended (answer_of_chip.clauses 𝓤 H A mem run) (λ κs r at. r)
     answer-of-chip-one _ _ _ _ _ _ _ = same (λ r. r)
+
+    pub read-tray-one : Sole 𝓤 read_tray.ended (read_tray.clauses 𝓤 H A mem run) (λ κs r at. outcome r (now (at .1 .1 .1 .1 .1 .0)) (now (at .1 .1 .1 .1 .1 .1 .0)))
+    read-tray-one _ _ _ _ _ _ _ = same (λ v. v)
