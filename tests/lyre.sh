@@ -1,6 +1,7 @@
 #!/bin/sh
 # tests/lyre.sh: holds ./lyre to its help, in which each command has an example that works; to one line and a status for what cannot
-# be done; to what `card` prints and says of every refusal; and to calling rt where a program may be out of date, and only there.
+# be done; to what `card` prints and says of every refusal; to what `tray` prints and what it takes for no tray; and to calling rt where
+# a program may be out of date, and only there.
 set -eu
 cd "$(dirname "$0")/.."
 work=$(mktemp -d)
@@ -70,6 +71,10 @@ refused 1 "$work/missing: cannot be opened" card examples/card.txt "$work/missin
 refused 1 "$work: is a folder" card examples/card.txt "$work"
 head -c 65536 /dev/zero >"$work/long"
 refused 1 'lyre card: card: 65536 bytes or more' card "$work/long" examples/card.bin
+refused 2 'usage: ./lyre tray [FILE]' tray one two
+refused 1 "$work/missing: cannot be opened" tray "$work/missing"
+refused 1 "$work: is a folder" tray "$work"
+refused 1 'standard input: is closed' tray <&-
 same
 same examples/setting-a.bin
 same "$work/missing"
@@ -82,6 +87,10 @@ ends 1 sh -c './lyre to-hex examples/setting-a.bin >/dev/full'
 grep -qx 'lyre to-hex: the text cannot be written' "$work/said" || fail 'to-hex does not say that its text is lost'
 ends 1 sh -c './lyre from-hex 129 examples/hex/objcopy.hex >/dev/full'
 grep -qx 'lyre from-hex: the image cannot be written' "$work/said" || fail 'from-hex does not say that its image is lost'
+ends 1 sh -c './lyre tray examples/tray.bin >&-'
+grep -qx 'lyre tray: standard output: is closed' "$work/said" || fail 'tray does not say that standard output is closed'
+ends 1 sh -c './lyre tray examples/tray.bin >/dev/full'
+grep -qx 'lyre tray: the lines cannot be written' "$work/said" || fail 'tray does not say that its lines are lost'
 
 # answers STATUS LINES WORDS CARD CHIP: ./lyre card prints five lines, which stand here with spaces between them, and says the words, one
 # line or more, or nothing
@@ -136,6 +145,48 @@ answers 1 "read=1 code=1 $none" 'lyre card: chip: not 41 to 4096 bytes long
 lyre card: card: the allowance is not 1 to 1000000' "$work/card" /dev/null
 ends 1 sh -c './lyre card examples/card.txt examples/card.bin >/dev/full'
 grep -qx 'lyre card: the lines cannot be written' "$work/said" || fail 'card does not say that its lines are lost'
+
+# lines ARGUMENT..: ./lyre tray prints $work/lines and says nothing
+lines() {
+    ends 0 ./lyre tray "$@"
+    diff "$work/lines" "$work/printed" && [ ! -s "$work/said" ] || fail "./lyre tray $*: prints something else (>) than it should (<)"
+}
+
+# no_tray: $work/tray is refused
+no_tray() {
+    refused 1 'lyre tray: not 1 to 64 images of 129 bytes each' tray "$work/tray"
+}
+
+# chips N: $work/tray has the chip of the card N times, and $work/lines what is printed of it
+chips() {
+    for number in $(seq "$1"); do
+        cat examples/card.bin
+        echo "number=$number code=0 count=113" >&3
+    done >"$work/tray" 3>"$work/lines"
+}
+
+printf 'number=1 code=0 count=3\nnumber=2 code=3 count=0\nnumber=3 code=0 count=113\n' >"$work/lines"
+lines examples/tray.bin
+lines <examples/tray.bin
+{ head -c 100 examples/tray.bin; sleep 0.2; tail -c +101 examples/tray.bin; } | lines
+# The tray that the crate is run on: a line has what ./look prints of that image alone.
+for number in 1 2 3 4 5 6 7; do
+    dd if=crates/tray/stdin bs=129 skip=$((number - 1)) count=1 2>"$work/dd" | ./look |
+        sed -n "1s/^/number=$number /p; 2p" | paste -s -d ' ' -
+done >"$work/lines"
+lines crates/tray/stdin
+chips 1
+lines "$work/tray"
+chips 64
+lines "$work/tray"
+printf x >>"$work/tray"
+no_tray
+chips 65
+no_tray
+head -c 386 examples/tray.bin >"$work/tray"
+no_tray
+: >"$work/tray"
+no_tray
 
 # When rt is called, in a house and with a kit that are made up: there rt leaves a program, as long as the kit has it, and ends as the
 # file `ends` says.
