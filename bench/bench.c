@@ -1,7 +1,8 @@
 /* Prints the table of instructions per call, the archive beside fast.c, on the same chips in one run. Use: bench STEPS, where
    STEPS is 4096 for the figures of record. Answers, cells and lives are compared on the way. Ends with 1 where the archive takes
-   more than fast.c in one of the usual calls: a step, a read, an open of what was opened before. It also does where the archive's
-   work on a clean chip is uneven. */
+   more than fast.c in one of the usual calls: a step, a read, an open of what was opened before, a tray. It also does where the
+   archive's work on a clean chip is uneven, and where a tray takes it more than its own reads of the images, or of one image eight in
+   a hundred more. */
 
 #include <inttypes.h>
 #include <stdio.h>
@@ -105,26 +106,26 @@ static void row(const char *name, figures sum, uint64_t number)
     fflush(stdout);
 }
 
-/* The archive may take so many halves of what C takes. Sums are compared, since a ratio printed as 1.00 may be above it. */
-static void held_row(const char *name, figures sum, uint64_t number, uint64_t halves)
+/* The archive may take so many hundredths of the other figure. Sums are compared, since a ratio printed as 1.00 may be above it. */
+static void held_row(const char *name, figures sum, uint64_t number, uint64_t percent)
 {
     row(name, sum, number);
-    if (2 * sum.archive <= halves * sum.c)
+    if (100 * sum.archive <= percent * sum.c)
         return;
     printf("bench: in this row the archive takes %" PRIu64 " instructions, and may take no more than %" PRIu64 "\n", sum.archive,
-           halves * sum.c / 2);
+           percent * sum.c / 100);
     status = 1;
 }
 
 static void usual_row(const char *name, figures sum, uint64_t number)
 {
-    held_row(name, sum, number, 2);
+    held_row(name, sum, number, 100);
 }
 
 /* What comes once in the life of a chip or of a cell. */
 static void rare_row(const char *name, figures sum, uint64_t number)
 {
-    held_row(name, sum, number, 3);
+    held_row(name, sum, number, 150);
 }
 
 /* A step that changes a Low nibble takes one instruction more than one that changes a High one: pointers of two bytes are read at
@@ -239,6 +240,60 @@ static void growth_row(size_t n, size_t e)
     row(name, stepped.sum, stepped.number);
 }
 
+/* What a tray may take beside reading each of its images alone, in hundredths: of one image, and of several. */
+enum { percent_of_one = 108, percent_of_several = 100 };
+
+/* Image i has been stepped i times. */
+static void lay_tray(uint8_t *tray, size_t images)
+{
+    lay_blank();
+    open_both(setting_a);
+    for (size_t i = 0; i < images; i++) {
+        memcpy(tray + i * setting_a.n, theirs.image, setting_a.n);
+        step_both(setting_a);
+    }
+}
+
+/* The tray by the archive and by fast.c. */
+static figures tray_both(const uint8_t *tray, size_t images)
+{
+    entries one = {{0}, {0}}, other = {{0}, {0}};
+    uint32_t code, code_of_c;
+    figures figures;
+    figures.archive = count_tray(lyre_tray, tray, images * setting_a.n, setting_a, &one, &code);
+    figures.c = count_tray(fast_tray, tray, images * setting_a.n, setting_a, &other, &code_of_c);
+    same(&one, &other, sizeof one, code | code_of_c);
+    return figures;
+}
+
+/* What the archive's reads of these images take, one by one. */
+static uint64_t reads_alone(const uint8_t *tray, size_t images)
+{
+    lyre_read_answer answer;
+    uint64_t sum = 0;
+    for (size_t i = 0; i < images; i++)
+        sum += count_reading(lyre_read, tray + i * setting_a.n, setting_a, &answer);
+    return sum;
+}
+
+/* Two rows a tray: the archive beside C, and the archive's tray beside its own reads. */
+static void tray_rows(void)
+{
+    static const size_t sizes[] = {1, 8, most_images};
+    static uint8_t tray[most_images * 129];
+    lay_tray(tray, most_images);
+    printf("%-52s %10s %10s %8s\n", "instructions per image of a tray", "archive", "other", "ratio");
+    for (size_t i = 0; i < sizeof sizes / sizeof *sizes; i++) {
+        const size_t images = sizes[i];
+        const figures taken = tray_both(tray, images);
+        char name[60];
+        snprintf(name, sizeof name, "tray of %zu, setting A, beside C -O2", images);
+        usual_row(name, taken, images);
+        snprintf(name, sizeof name, "tray of %zu, setting A, beside the archive's reads", images);
+        held_row(name, (figures){taken.archive, reads_alone(tray, images)}, images, images == 1 ? percent_of_one : percent_of_several);
+    }
+}
+
 int main(int count_of_words, char **words)
 {
     static const size_t sizes[] = {41, 64, 129, 256, 512, 1024, 2048, 4096};
@@ -256,5 +311,6 @@ int main(int count_of_words, char **words)
     printf("growth with the area, N 4096\n");
     for (size_t i = 0; i < sizeof sizes / sizeof *sizes; i++)
         growth_row(4096, sizes[i] - 1);
+    tray_rows();
     return status;
 }

@@ -8,7 +8,7 @@
 #include <ucontext.h>
 
 static volatile uint64_t instructions;
-static uint64_t last_place, around_writing, around_reading, around_hex;
+static uint64_t last_place, around_writing, around_reading, around_hex, around_tray;
 
 /* A repeated string instruction traps once a round at one and the same place, and counts as one instruction. */
 static void on_trap(int number, siginfo_t *information, void *context)
@@ -55,6 +55,16 @@ static __attribute__((noinline)) uint64_t hex(hex_door *door, const uint8_t *fro
     return instructions;
 }
 
+static __attribute__((noinline)) uint64_t tray_reading(tray_door *door, const uint8_t *tray, size_t length, places at, entries *rows,
+                                                       uint32_t *answer)
+{
+    instructions = 0;
+    trap_on();
+    *answer = door(tray, length, at.n, at.m, at.s, at.e, rows->counts, most_images, rows->codes, most_images);
+    trap_off();
+    return instructions;
+}
+
 void count_begin(void)
 {
     struct sigaction action;
@@ -68,9 +78,12 @@ void count_begin(void)
     lyre_answer answer;
     lyre_read_answer read_answer;
     lyre_hex hex_answer;
+    entries rows;
+    uint32_t tray_answer;
     around_writing = writing(door_that_returns, image, lives, (places){0}, &answer) - 1;
     around_reading = reading((reading_door *)(void *)door_that_returns, image, (places){0}, &read_answer) - 1;
     around_hex = hex((hex_door *)(void *)door_that_returns, image, 0, image, 0, &hex_answer) - 1;
+    around_tray = tray_reading((tray_door *)(void *)door_that_returns, image, 0, (places){0}, &rows, &tray_answer) - 1;
 }
 
 uint64_t count_writing(writing_door *door, uint8_t *image, uint32_t *lives, places at, lyre_answer *answer)
@@ -86,4 +99,9 @@ uint64_t count_reading(reading_door *door, const uint8_t *image, places at, lyre
 uint64_t count_hex(hex_door *door, const uint8_t *from, size_t length, uint8_t *into, size_t room, lyre_hex *answer)
 {
     return hex(door, from, length, into, room, answer) - around_hex;
+}
+
+uint64_t count_tray(tray_door *door, const uint8_t *tray, size_t length, places at, entries *rows, uint32_t *answer)
+{
+    return tray_reading(door, tray, length, at, rows, answer) - around_tray;
 }

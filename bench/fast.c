@@ -400,3 +400,19 @@ lyre_part fast_map_part(const uint8_t *image, size_t n, size_t m, size_t s, size
         code = 16;
     return code != 0 ? (lyre_part){.code = code} : (lyre_part){.start = m + 2 + 11 * (copy - 1), .length = 11};
 }
+
+uint32_t fast_tray(const uint8_t *tray, size_t length, size_t each, size_t m, size_t s, size_t e, uint32_t *counts, size_t counts_n,
+                   uint32_t *codes, size_t codes_n)
+{
+    if (unusual(each == 0 || length % each != 0))
+        return 12;
+    size_t images = length / each;
+    if (unusual(images - 1 > 63 || counts_n < images || codes_n < images))
+        return 12;
+    for (size_t i = 0; i < images; i++, tray += each) {
+        lyre_read_answer answer = fast_read(tray, each, m, s, e);
+        counts[i] = answer.count;
+        codes[i] = answer.code;
+    }
+    return 0;
+}

@@ -10,7 +10,7 @@
 
 #include "../include/lyre.h"
 
-enum { guard = 32, shifts = 16, codes = refusals + 1, number_size = sizeof(uint32_t) };
+enum { codes = refusals + 1, number_size = sizeof(uint32_t) };
 enum { row_room = (guard + shifts + guard) / number_size + longest_row };
 
 typedef struct {
@@ -30,17 +30,6 @@ const uint32_t order[refusals] = {5, 1, 4, 2, 3, 6};
 static const char *const door_names[doors] = {"at", "write"};
 static uint64_t met[doors][codes];
 static uint64_t pairs[doors][codes][codes];
-
-static const uint8_t guard_byte = 0xC3;
-
-static void *lend_bytes(void *room, size_t shift, const void *bytes, size_t number)
-{
-    uint8_t *lent = (uint8_t *)room + guard + shift;
-    memset(lent - guard, guard_byte, guard);
-    memcpy(lent, bytes, number);
-    memset(lent + number, guard_byte, guard);
-    return lent;
-}
 
 void lend_text(const uint8_t *text, size_t length)
 {
@@ -69,18 +58,9 @@ void lend_rows(const uint32_t *speeds, size_t speeds_n, const uint32_t *turns, s
     lend_rows_to(&theirs, (lent_length + turns_n) * number_size % shifts);
 }
 
-static bool guard_whole(const void *lent, size_t number)
-{
-    const uint8_t *bytes = lent;
-    for (size_t i = 0; i < guard; i++)
-        if (bytes[-1 - (ptrdiff_t)i] != guard_byte || bytes[number + i] != guard_byte)
-            return false;
-    return true;
-}
-
 static bool rows_whole(const side *side)
 {
-    return guard_whole(side->speeds, lent_speeds * number_size) && guard_whole(side->turns, lent_turns * number_size);
+    return guards_whole(side->speeds, lent_speeds * number_size) && guards_whole(side->turns, lent_turns * number_size);
 }
 
 static bool rows_kept(const side *side)
@@ -141,7 +121,7 @@ static void differ(const char *what, door door)
 /* Only `written` bytes at the start of the text may have changed, and nothing else that was lent. */
 static void compare_text(door door, size_t written)
 {
-    if (!guard_whole(ours.text, lent_length) || !guard_whole(theirs.text, lent_length))
+    if (!guards_whole(ours.text, lent_length) || !guards_whole(theirs.text, lent_length))
         differ("a write outside the text", door);
     if (memcmp(ours.text, theirs.text, lent_length) != 0)
         differ("text", door);

@@ -275,9 +275,8 @@ static void draw_lives(void)
             lives[good.m + below(24)] = (uint32_t)below(2);
 }
 
-void draw_chip(void)
+void draw_cells(void)
 {
-    draw_good_places();
     draw_sound_map();
     fill();
     if (chance(80)) {
@@ -297,6 +296,12 @@ void draw_chip(void)
         if (chance(8))
             damage_mark();
     }
+}
+
+void draw_chip(void)
+{
+    draw_good_places();
+    draw_cells();
     draw_lives();
 }
 

@@ -15,6 +15,9 @@ extern const uint8_t codes[16];
 
 void draw_chip(void);
 
+/* Other cells for the same settings. */
+void draw_cells(void);
+
 /* Settings that are likely not good, with cells and lives for them. */
 places spoil(places at);
 

@@ -21,20 +21,11 @@ static uint32_t lives_before[largest];
 static const char *const door_names[doors] = {"open", "read", "step", "map part", "trial open", "trial step"};
 static uint64_t met[doors][codes_counted], reads_mended;
 
-static const uint8_t guard_byte = 0xC3;
-static const uint32_t guard_life = 0xC3C3C3C3;
-
 static void lend_side(side *side, size_t shift, const uint8_t *image, const uint32_t *lives)
 {
     /* Images stand at any alignment, for bytes ask for none. */
-    side->image = side->room + guard + shift;
-    side->lives = side->lives_room + guard;
-    memset(side->image - guard, guard_byte, guard);
-    memcpy(side->image, image, lent.n);
-    memset(side->image + lent.n, guard_byte, guard);
-    memset(side->lives - guard, guard_byte, guard * sizeof *lives);
-    memcpy(side->lives, lives, lent.lives_n * sizeof *lives);
-    memset(side->lives + lent.lives_n, guard_byte, guard * sizeof *lives);
+    side->image = lend_bytes(side->room, shift, image, lent.n);
+    side->lives = lend_bytes(side->lives_room, 0, lives, lent.lives_n * sizeof *lives);
 }
 
 void lend(places at, const uint8_t *image, const uint32_t *lives)
@@ -44,13 +35,9 @@ void lend(places at, const uint8_t *image, const uint32_t *lives)
     lend_side(&theirs, (at.n + at.e) % shifts, image, lives);
 }
 
-static bool guards_whole(const side *side)
+static bool side_whole(const side *side)
 {
-    for (size_t i = 0; i < guard; i++)
-        if (side->image[-1 - (ptrdiff_t)i] != guard_byte || side->image[lent.n + i] != guard_byte ||
-            side->lives[-1 - (ptrdiff_t)i] != guard_life || side->lives[lent.lives_n + i] != guard_life)
-            return false;
-    return true;
+    return guards_whole(side->image, lent.n) && guards_whole(side->lives, lent.lives_n * sizeof *side->lives);
 }
 
 uint8_t cell(size_t address)
@@ -113,7 +100,7 @@ void remember(void)
 void compare_chips(door door, uint32_t code)
 {
     met[door][code < codes_counted ? code : codes_counted - 1] += 1;
-    if (!guards_whole(&ours) || !guards_whole(&theirs))
+    if (!side_whole(&ours) || !side_whole(&theirs))
         differ("a write outside what was lent", door);
     if (memcmp(ours.image, theirs.image, lent.n) != 0)
         differ("cells", door);

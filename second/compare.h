@@ -7,7 +7,7 @@
 #include "run.h"
 #include "second.h"
 
-enum { largest = 4200, guard = 32, shifts = 16, asked_room = 64 };
+enum { largest = 4200, asked_room = 64 };
 
 typedef struct {
     size_t n, lives_n, m, s, e;
@@ -37,7 +37,7 @@ void print_codes(void);
 
 typedef struct {
     uint8_t room[guard + shifts + largest + guard];
-    uint32_t lives_room[guard + largest + guard];
+    uint32_t lives_room[(guard + guard) / sizeof(uint32_t) + largest];
     uint8_t *image;
     uint32_t *lives;
 } side;

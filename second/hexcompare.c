@@ -10,7 +10,7 @@
 
 #include "../include/lyre.h"
 
-enum { guard = 32, shifts = 16, codes = 9 };
+enum { codes = 9 };
 
 typedef struct {
     uint8_t image_room[guard + shifts + largest_image + guard];
@@ -26,17 +26,6 @@ const char program[] = "hexcompare";
 static const char *const door_names[doors] = {"write", "read"};
 static uint64_t met[doors][codes];
 static uint64_t pairs[2][codes][codes]; /* in two lines, and in one */
-
-static const uint8_t guard_byte = 0xC3;
-
-static uint8_t *lend_bytes(uint8_t *room, size_t shift, const uint8_t *bytes, size_t number)
-{
-    uint8_t *lent = room + guard + shift;
-    memset(lent - guard, guard_byte, guard);
-    memcpy(lent, bytes, number);
-    memset(lent + number, guard_byte, guard);
-    return lent;
-}
 
 static void lend_side(side *side, size_t image_shift, size_t text_shift)
 {
@@ -56,17 +45,9 @@ void lend(const uint8_t *image, size_t n, const uint8_t *text, size_t length)
     lend_side(&theirs, (n + length) % shifts, length % shifts);
 }
 
-static bool guard_whole(const uint8_t *lent, size_t number)
+static bool side_whole(const side *side)
 {
-    for (size_t i = 0; i < guard; i++)
-        if (lent[-1 - (ptrdiff_t)i] != guard_byte || lent[number + i] != guard_byte)
-            return false;
-    return true;
-}
-
-static bool guards_whole(const side *side)
-{
-    return guard_whole(side->image, lent_n) && guard_whole(side->text, lent_length);
+    return guards_whole(side->image, lent_n) && guards_whole(side->text, lent_length);
 }
 
 const uint8_t *image_now(void)
@@ -130,7 +111,7 @@ static void compare_answers(door door, second_hex mine, second_hex other)
 
 static void compare_lent(door door, second_hex answer)
 {
-    if (!guards_whole(&ours) || !guards_whole(&theirs))
+    if (!side_whole(&ours) || !side_whole(&theirs))
         differ("a write outside what was lent", door);
     if (memcmp(ours.image, theirs.image, lent_n) != 0)
         differ("image", door);

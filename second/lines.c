@@ -4,6 +4,7 @@
 #include "card.h"
 #include "hex.h"
 #include "second.h"
+#include "tray.h"
 
 #include <inttypes.h>
 #include <stdio.h>
@@ -541,6 +542,55 @@ static void cut_moves(void)
     say_cut_open("P6 opened, power 0, open", 0, 0x00, none);
 }
 
+static uint8_t tray[512];
+static size_t laid;
+
+static void lay(void)
+{
+    memcpy(tray + laid, image, n);
+    laid += n;
+}
+
+/* A chip at 1, a blank one, and one whose first two pointers are alike. */
+static void lay_three(void)
+{
+    opened_a();
+    image[128] = image[125] = 0x07;
+    laid = 0;
+    lay();
+    blank(129, 128);
+    lay();
+    opened_a();
+    image[3] = 127;
+    lay();
+}
+
+static void say_tray(const char *name, size_t length, size_t each, size_t last, size_t counts_n, size_t codes_n)
+{
+    uint32_t counts[64] = {9, 9, 9, 9}, codes[64] = {9, 9, 9, 9};
+    uint32_t code = second_tray(tray, length, each, map, start, last, counts, counts_n, codes, codes_n);
+    printf("%s: code=%" PRIu32 " counts=%" PRIu32 ",%" PRIu32 ",%" PRIu32 ",%" PRIu32 " codes=%" PRIu32 ",%" PRIu32 ",%" PRIu32
+           ",%" PRIu32 "\n", name, code, counts[0], counts[1], counts[2], counts[3], codes[0], codes[1], codes[2], codes[3]);
+}
+
+static void trays(void)
+{
+    lay_three();
+    say_tray("P7 one image", 129, 129, 128, 4, 4);
+    say_tray("P7 three images", 387, 129, 128, 4, 4);
+    say_tray("P7 three images, rows of 3", 387, 129, 128, 3, 3);
+    say_tray("P7 images of 40", 120, 40, 128, 4, 4);
+    say_tray("P7 the area ends at 129", 387, 129, 129, 4, 4);
+    say_tray("P7 counts of 2", 387, 129, 128, 2, 4);
+    say_tray("P7 codes of 2", 387, 129, 128, 4, 2);
+    say_tray("P7 image length 0", 387, 0, 128, 4, 4);
+    say_tray("P7 no image", 0, 129, 128, 4, 4);
+    say_tray("P7 a byte too few", 386, 129, 128, 4, 4);
+    say_tray("P7 a byte too many", 388, 129, 128, 4, 4);
+    say_tray("P7 64 images", 64, 1, 128, 64, 64);
+    say_tray("P7 65 images", 65, 1, 128, 64, 64);
+}
+
 int main(void)
 {
     bench_list();
@@ -564,5 +614,6 @@ int main(void)
     cut_openings();
     cut_steps();
     cut_moves();
+    trays();
     return 0;
 }

@@ -6,6 +6,7 @@
 #include <inttypes.h>
 #include <stdio.h>
 #include <stdlib.h>
+#include <string.h>
 
 uint64_t cases, calls;
 static uint64_t seed, case_number;
@@ -48,6 +49,28 @@ bool chance(unsigned percent)
 size_t smaller(size_t one, size_t other)
 {
     return one < other ? one : other;
+}
+
+static const uint8_t guard_byte = 0xC3;
+
+void *lend_bytes(void *room, size_t shift, const void *bytes, size_t number)
+{
+    uint8_t *lent = (uint8_t *)room + guard + shift;
+    memset(lent - guard, guard_byte, guard);
+    memcpy(lent, bytes, number);
+    memset(lent + number, guard_byte, guard);
+    return lent;
+}
+
+/* The first byte is right, and each of the others is as the one before it. */
+static bool guard_whole(const uint8_t *bytes)
+{
+    return bytes[0] == guard_byte && memcmp(bytes, bytes + 1, guard - 1) == 0;
+}
+
+bool guards_whole(const void *lent, size_t number)
+{
+    return guard_whole((const uint8_t *)lent - guard) && guard_whole((const uint8_t *)lent + number);
 }
 
 void begin(uint64_t number)

@@ -1,4 +1,5 @@
-/* What the comparing programs have in common: how they are started, the draws of random cases, and how an outcome is told. */
+/* What the comparing programs have in common: how they are started, the draws of random cases, how memory is lent, and how an outcome
+   is told. */
 
 #ifndef RUN_H
 #define RUN_H
@@ -30,6 +31,14 @@ void expect(bool holds, const char *what);
    something much less often than it is drawn says little about it; and such a run fails in the end. */
 void print_times(bool possible, uint64_t times, uint64_t least);
 void end_if_seldom(void);
+
+/* What is lent stands between guards of so many bytes, and up to `shifts` less 1 further on in its room. The room has both guards and
+   the shift besides what is lent. */
+enum { guard = 128, shifts = 16 };
+
+/* Lends a copy of the bytes, and says whether nobody wrote outside of it. */
+void *lend_bytes(void *room, size_t shift, const void *bytes, size_t number);
+bool guards_whole(const void *lent, size_t number);
 
 uint64_t draw(void);
 size_t below(size_t limit);
