@@ -1,5 +1,5 @@
 #!/bin/sh
-# tests/readme.sh: holds the README to what it shows: what ./look and ./lyre card print, and the program for C, which examples/run runs.
+# tests/readme.sh: holds the README to what it shows: what ./look, ./lyre card and ./lyre tray print, and the program for C, which examples/run runs.
 set -eu
 cd "$(dirname "$0")/.."
 work=$(mktemp -d)
@@ -16,7 +16,8 @@ shows() {
 }
 
 shows '1,/^## /p' '\.\/look'
-shows '/^## The stylus card/,/^## From C/p' '\.\/lyre card'
+shows '/^## The stylus card/,/^## A tray/p' '\.\/lyre card'
+shows '/^## A tray/,/^## From C/p' '\.\/lyre tray'
 sed -n '/^```c$/,/^```$/{/^```/!p;}' README.md >"$work/program"
 diff "$work/program" examples/turns.c || { echo 'readme: the program for C (<) is not examples/turns.c (>)'; exit 1; }
 echo 'readme: shows what is so'
