@@ -1,4 +1,4 @@
--- The line of a refusal: its words where no test has met, and that there is a line just where a text is refused.
+-- The line of a refusal: the place before its words, and that there is a line just where a text is refused.
 use Prim.Native.Nat.{ℕ, ◌<◌}
 use mathlib.Core.Path.{◌≡◌}
 use mathlib.Core.Bool.{Bool, true, false, cond}
@@ -9,15 +9,7 @@ use lib.Dec.{eqb}
 use lib.ListN.{length, length-append}
 use Rattle.intelhex.specs.declared.Answer.{Answer}
 use Rattle.intelhex.proofs.LineLaws.{choose}
-use Rattle.text.specs.Text.{bytes_of}
 use Rattle.fromhex.specs.Refusals.{words_of, place_of, refusal_of}
-
--- the words of a refusal with no number of its own
-pub other_words : (code : ℕ) → (code ≡ 1 → ⊥) → (code ≡ 2 → ⊥) → (code ≡ 3 → ⊥) → (code ≡ 4 → ⊥) → (code ≡ 5 → ⊥) → (code ≡ 6 → ⊥)
-    → words_of code ≡ bytes_of "the image is not 41 to 4096 bytes long\n"
-unfolding words_of
-other_words code not1 not2 not3 not4 not5 not6 =
-    rw (ne_eqb code 1 not1, ne_eqb code 2 not2, ne_eqb code 3 not3, ne_eqb code 4 not4, ne_eqb code 5 not5, ne_eqb code 6 not6)
 
 -- there are words of every refusal
 cond_some : (b : Bool) (xs ys : List ℕ) → 0 < length xs → 0 < length ys → 0 < length (cond b xs ys)
@@ -49,3 +41,8 @@ said_nothing a none = choose (eqb a.code 0)
 pub nothing_said : (a : Answer) → a.code ≡ 0 → refusal_of a ≡ []
 unfolding refusal_of
 nothing_said a read = rw read
+
+-- where a line of the text is to blame, the words stand behind its place
+pub said_of_line : (a : Answer) → (a.code ≡ 0 → ⊥) → (a.code ≡ 7 → ⊥) → refusal_of a ≡ place_of a.line ++ words_of a.code
+unfolding refusal_of
+said_of_line a refused sized = rw (ne_eqb a.code 0 refused, ne_eqb a.code 7 sized)

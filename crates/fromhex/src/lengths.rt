@@ -6,6 +6,7 @@ ghost use Rattle.fromhex.specs.Lengths.{too_long, with_digit, length_of};
 pub(crate) const TOO_LONG: usize = 4097;
 
 // A number with one digit more.
+#[tactic(auto, using(crate::proofs::Digits::below_digits, crate::proofs::Digits::above_digits, crate::proofs::Digits::at_digit))]
 fn with_digit(n: usize, byte: u8) -> usize
     requires { n ≤ too_long }
     ensures { (result ≡ with_digit n byte) × (result ≤ too_long) }

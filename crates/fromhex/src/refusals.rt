@@ -9,6 +9,7 @@ use intelhex::Answer;
 pub(crate) const LONGEST: usize = 87;
 
 // Writes the words of a refusal and the line's end, from an index on, and answers the index past them.
+#[tactic(auto, unfolding(crate::specs::Refusals::words_of))]
 fn write_words(code: u32, text: &mut [u8], at: usize) -> usize
     requires { at + words_longest ≤ length text.old }
     ensures { Wrote text.old at (words_of code) result text.new }
@@ -53,6 +54,7 @@ fn write_place(line: usize, text: &mut [u8]) -> usize
 }
 
 // Writes the line that a refusal is said by at the start of a text, and answers how long it is: 0 where nothing is refused.
+#[tactic(auto, using(text::proofs::Writing::wrote_none), unfolding(crate::specs::Refusals::refusal_of))]
 pub(crate) fn fill(answer: Answer, text: &mut [u8]) -> usize
     requires { longest ≤ length text.old }
     ensures { Wrote text.old 0 (refusal_of answer) result text.new }

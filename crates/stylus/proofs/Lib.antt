@@ -1,3 +1,2 @@
--- `Room` says how long the lines are at most; `OtherWords` has the words where no test has met.
+-- `Room` says how long the lines are at most.
 mod Room
-mod OtherWords

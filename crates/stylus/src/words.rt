@@ -9,6 +9,7 @@ use card::ChipAnswer;
 pub(crate) const LONGEST: usize = 87;
 
 // Writes what is said of a read at the start of a text, and answers how long that is.
+#[tactic(auto, using(text::proofs::Writing::wrote_none), unfolding(crate::specs::Prints::read_words))]
 fn write_read(code: u32, text: &mut [u8]) -> usize
     requires { read_longest ≤ length text.old }
     ensures { (Wrote text.old 0 (read_words code) result text.new) × (result ≤ read_longest) }
@@ -35,6 +36,7 @@ fn write_read(code: u32, text: &mut [u8]) -> usize
 }
 
 // Writes what is said of a card, from an index on, and answers the index past it.
+#[tactic(auto, using(text::proofs::Writing::wrote_none), unfolding(crate::specs::Prints::card_words))]
 fn write_card(code: u32, text: &mut [u8], at: usize) -> usize
     requires { at + card_longest ≤ length text.old }
     ensures { Wrote text.old at (card_words code) result text.new }

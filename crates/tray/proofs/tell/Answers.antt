@@ -6,15 +6,15 @@ use Rattle.tray.proofs.tell.Goals as goal
 
 pub returns-then-code-ne0 : goal.returns-then-code-ne0
 returns-then-code-ne0 c =
-    let (none, words) = refused _ _ _ c.read_tray-code.ensures (lit≤ tt) (lit≤ tt) c.if-code-ne0.true in
+    let (none, words) = refused _ _ _ c.read_tray-code.ensures (lit≤ tt) (lit≤ tt) (omega arith) in
     rw words (none, c.write_bytes-end.ensures)
 
 pub fill-end-requires : goal.fill-end-requires
 fill-end-requires c =
-    let few = few _ _ _ c.read_tray-code.ensures c.if-code-ne0.false in
+    let few = few _ _ _ c.read_tray-code.ensures (omega arith) in
     (omega (arith, few), omega (arith, few), omega (arith, few))
 
 pub returns : goal.returns
 returns c =
-    let (some, lines) = told _ _ _ c.read_tray-code.ensures c.if-code-ne0.false in
+    let (some, lines) = told _ _ _ c.read_tray-code.ensures (omega arith) in
     rw lines (some, c.fill-end.ensures)

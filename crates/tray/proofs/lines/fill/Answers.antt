@@ -16,9 +16,6 @@ line codes counts = line_at (λ i. get_or codes i 0) (λ i. get_or counts i 0)
 pub loop-done-init : goal.loop-done-init
 loop-done-init c = record { most = zero-le; ends = zero-le; wrote = wrote_no_line _ _ zero-le }
 
-pub write_line-next-requires : goal.write_line-next-requires
-write_line-next-requires c = omega arith
-
 pub loop-done-preserved : goal.loop-done-preserved
 loop-done-preserved c =
     let images = c.args.images in
