@@ -1,5 +1,7 @@
 // The doors for C, as include/lyre.h declares them. Each hands its arguments to a door of the counter, of hex, of card, of dumps or of
 // room, and promises what that door promises.
+#![tactic(auto)]
+
 ghost use Rattle.std.specs.Prelude.{◌≡◌, length};
 ghost use Rattle.cells.specs.Chip.{chip};
 ghost use Rattle.counter.specs.Layout.{two};
@@ -19,7 +21,7 @@ ghost use Rattle.lyre.specs.Plain.{answer_in, read_answer_in, part_in, kept_in, 
 
 // lyre_answer.
 #[repr(C)]
-#[derive(Drop)]
+#[derive(Clone, Copy)]
 pub struct Answer {
     pub code: u32,
     pub count: u32,
@@ -31,7 +33,7 @@ pub struct Answer {
 
 // lyre_read_answer.
 #[repr(C)]
-#[derive(Drop)]
+#[derive(Clone, Copy)]
 pub struct ReadAnswer {
     pub code: u32,
     pub count: u32,
@@ -44,7 +46,7 @@ pub struct ReadAnswer {
 
 // lyre_part.
 #[repr(C)]
-#[derive(Drop)]
+#[derive(Clone, Copy)]
 pub struct Part {
     pub code: u32,
     pub start: u64,
@@ -53,7 +55,7 @@ pub struct Part {
 
 // lyre_kept.
 #[repr(C)]
-#[derive(Drop)]
+#[derive(Clone, Copy)]
 pub struct Kept {
     pub code: u32,
     pub count: u32,
@@ -67,7 +69,7 @@ pub struct Kept {
 
 // lyre_room.
 #[repr(C)]
-#[derive(Drop)]
+#[derive(Clone, Copy)]
 pub struct Room {
     pub high: u64,
     pub low: u64,
@@ -75,7 +77,7 @@ pub struct Room {
 
 // lyre_hex.
 #[repr(C)]
-#[derive(Drop)]
+#[derive(Clone, Copy)]
 pub struct Hex {
     pub code: u32,
     pub line: u64,
@@ -84,7 +86,7 @@ pub struct Hex {
 
 // lyre_card.
 #[repr(C)]
-#[derive(Drop)]
+#[derive(Clone, Copy)]
 pub struct Card {
     pub code: u32,
     pub used: u32,
@@ -94,7 +96,7 @@ pub struct Card {
 
 // lyre_text.
 #[repr(C)]
-#[derive(Drop)]
+#[derive(Clone, Copy)]
 pub struct Text {
     pub code: u32,
     pub length: u64,

@@ -6,12 +6,8 @@ use lib.Count.{ones_in, count_trailing_zeros}
 use Rattle.code.specs.Codes.{codes, code_of}
 use Rattle.code.specs.Tabulate.{tabulate}
 use Rattle.code.proofs.QuickLaws.{quick_entry, entries_quick}
-use Rattle.code.proofs.table.laid.Statement.{statement}
-use Rattle.code.proofs.table.laid.Tie as tie
+use Rattle.code.proofs.table.laid.Goals as goal
 
-returns : tie.Need-returns
+pub returns : goal.returns
 unfolding codes code_of ones_in count_trailing_zeros
 returns c = let quick : ◌≡◌ {A = List ℕ} _ (tabulate quick_entry 0 256) = refl in quick ∙ sym entries_quick
-
-pub laid-spec : {M : Type 1} → statement M
-laid-spec = tie.close (tie.spec returns)
