@@ -115,10 +115,10 @@ abbrev text_out : written.Written → plain_text.Text
 text_out w = record { code = w.code; length = w.length }
 
 -- bytes written are seen by where they end and by the text as it is left
-one-text :
+one_text :
     {before bytes after after' : List ℕ} {at next next' : ℕ} → Wrote before at bytes next after → Wrote before at bytes next' after'
     → filled next after ≡ filled next' after'
-one-text one two = λ i. filled ((one.ends ∙ sym two.ends) i) ((one.holds ∙ sym two.holds) i)
+one_text one two = λ i. filled ((one.ends ∙ sym two.ends) i) ((one.holds ∙ sym two.holds) i)
 
 module _ {M : Type 1} (𝓤 : Ura M) where
   -- what follows from two facts
@@ -269,22 +269,22 @@ module _ {M : Type 1} (𝓤 : Ura M) where
     read_image_one _ _ _ _ _ _ _ = same (λ v. filled v.answer v.left)
 
     pub write_byte_one : Sole 𝓤 write_byte.ended (write_byte.clauses 𝓛 mem run) (λ κs r at. filled r (at .1 .0 .now))
-    write_byte_one _ _ _ _ _ _ _ = both one-text
+    write_byte_one _ _ _ _ _ _ _ = both one_text
 
     pub write_bytes_one : Sole 𝓤 write_bytes.ended (write_bytes.clauses 𝓛 mem run) (λ κs r at. filled r (at .1 .0 .now))
-    write_bytes_one _ _ _ _ _ _ _ = both one-text
+    write_bytes_one _ _ _ _ _ _ _ = both one_text
 
     pub write_decimal_one : Sole 𝓤 write_decimal.ended (write_decimal.clauses 𝓛 mem run) (λ κs r at. filled r (at .1 .0 .now))
-    write_decimal_one _ _ _ _ _ _ _ = both one-text
+    write_decimal_one _ _ _ _ _ _ _ = both one_text
 
     pub write_signed_one : Sole 𝓤 write_signed.ended (write_signed.clauses 𝓛 mem run) (λ κs r at. filled r (at .1 .0 .now))
-    write_signed_one _ _ _ _ _ _ _ = both one-text
+    write_signed_one _ _ _ _ _ _ _ = both one_text
 
     pub write_decimal_line_one : Sole 𝓤 write_decimal_line.ended (write_decimal_line.clauses 𝓛 mem run) (λ κs r at. filled r (at .1 .1 .0 .now))
-    write_decimal_line_one _ _ _ _ _ _ _ = both one-text
+    write_decimal_line_one _ _ _ _ _ _ _ = both one_text
 
     pub write_signed_line_one : Sole 𝓤 write_signed_line.ended (write_signed_line.clauses 𝓛 mem run) (λ κs r at. filled r (at .1 .1 .0 .now))
-    write_signed_line_one _ _ _ _ _ _ _ = both one-text
+    write_signed_line_one _ _ _ _ _ _ _ = both one_text
 
     pub decimal_length_one : Sole 𝓤 decimal_length.ended (decimal_length.clauses 𝓛 mem run) (λ κs r at. r)
     decimal_length_one _ _ _ _ _ _ _ = both (λ one two. one.0 ∙ sym two.0)

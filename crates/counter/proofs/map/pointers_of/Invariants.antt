@@ -1,7 +1,6 @@
 -- What the loop of `map::pointers_of` keeps.
-use Rattle.std.proofs.Common.{◌≡◌, ℕ, ◌-◌, ◌<◌, ◌≤◌, length, get_or, arith, length-set, rules}
+use Rattle.std.proofs.Common.{◌≡◌, ℕ, ◌-◌, ◌<◌, ◌≤◌, length, get_or}
 use Rattle.counter.specs.Map.{pointer_of}
-use Rattle.code.proofs.Filled.{all_set}
 use Rattle.counter.proofs.map.pointers_of.Given as goal
 
 abbrev pub invariant-loop-slot : goal.invariant-loop-slot

@@ -1,14 +1,9 @@
 -- What the loop of `reading::count_in` keeps.
-use Rattle.std.proofs.Common.{◌≡◌, ℕ, ◌-◌, ◌<◌, ◌≤◌, List, length, get_or, sym, refl, ap, ◌∙◌, arith, length-set, rules}
+use Rattle.std.proofs.Common.{◌≡◌, ℕ, ◌-◌, ◌<◌, ◌≤◌, length, get_or}
 use Rattle.code.specs.Entries.{reading_at}
-use Rattle.code.specs.Gray.{count_of}
-use Rattle.code.specs.Nibbles.{word_of}
-use Rattle.code.proofs.Filled.{all_set}
-use Rattle.code.proofs.TabulateLaws.{filled}
 use Rattle.counter.specs.Layout.{two}
-use Rattle.counter.specs.Reading.{nibble_in, count_in}
+use Rattle.counter.specs.Reading.{nibble_in}
 use Rattle.counter.specs.Inside.{listed}
-use Rattle.counter.proofs.Weighed.{nibble_two}
 use Rattle.counter.proofs.reading.count_in.Given as goal
 
 abbrev pub invariant-loop-n : goal.invariant-loop-n

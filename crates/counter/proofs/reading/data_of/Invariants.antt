@@ -1,8 +1,7 @@
 -- What the loop of `reading::data_of` keeps.
-use Rattle.std.proofs.Common.{◌≡◌, ℕ, ◌-◌, ◌<◌, ◌≤◌, length, refl, arith, length-set, rules}
+use Rattle.std.proofs.Common.{◌≡◌, ℕ, ◌-◌, ◌<◌, ◌≤◌, length}
 use Rattle.counter.specs.Reading.{data_at}
 use Rattle.counter.specs.Inside.{listed}
-use Rattle.code.proofs.Filled.{all_set}
 use Rattle.counter.proofs.reading.data_of.Given as goal
 
 abbrev pub invariant-loop-slot : goal.invariant-loop-slot

@@ -1,8 +1,7 @@
 -- What the loop of `reading::lowest_amiss` keeps.
-use Rattle.std.proofs.Common.{◌≡◌, ◌+◌, ◌-◌, ◌≤◌, sym, refl, ◌∙◌, arith, rules}
+use Rattle.std.proofs.Common.{◌≡◌, ◌+◌, ◌-◌, ◌≤◌}
 use Rattle.counter.specs.Slots.{lowest}
 use Rattle.counter.specs.Inside.{listed, amiss}
-use Rattle.counter.proofs.RangeTests.{lowest_here, lowest_on}
 use Rattle.counter.proofs.reading.lowest_amiss.Given as goal
 
 abbrev pub invariant-loop-n : goal.invariant-loop-n

@@ -1,13 +1,8 @@
 -- What the loop of `reading::plain_word` keeps.
-use mathlib.Core.Bool.{false≢true}
-use Rattle.std.proofs.Common.{◌≡◌, ℕ, ◌-◌, ◌<◌, ◌≤◌, List, get_or, sym, ap, ◌∙◌, arith, rules, ltb-true}
-use lib.Bits.{bit_xor}
-use Rattle.code.specs.Codes.{code_of}
+use Rattle.std.proofs.Common.{◌≡◌, ℕ, ◌-◌, ◌<◌, ◌≤◌, get_or}
 use Rattle.code.specs.Entries.{entry_of}
 use Rattle.counter.specs.Reading.{data_at}
-use Rattle.code.proofs.ReadingLaws.{entry_at, clean_code}
-use Rattle.counter.proofs.PlainBytes.{PlainTo, plain_more}
-use Rattle.counter.proofs.BitMarks.{or_left, or_right, xor_none}
+use Rattle.counter.proofs.PlainBytes.{PlainTo}
 use Rattle.counter.proofs.reading.plain_word.Given as goal
 
 abbrev pub invariant-loop-n : goal.invariant-loop-n

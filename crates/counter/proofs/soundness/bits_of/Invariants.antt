@@ -1,9 +1,8 @@
 -- What the loop of `soundness::bits_of` keeps.
-use Rattle.std.proofs.Common.{◌≡◌, ℕ, ◌+◌, ◌-◌, ◌*◌, ◌/◌, ◌%◌, ◌<◌, ◌≤◌, ◌⊎◌, inl, inr, arith, rules}
-use native.Mathlib.Decide.{dec_lt}
+use Rattle.std.proofs.Common.{◌+◌, ◌-◌, ◌*◌, ◌/◌, ◌%◌, ◌≤◌}
 use Rattle.counter.specs.Map.{pointer_of}
 use Rattle.counter.specs.Inside.{Among}
-use Rattle.counter.proofs.BitMarks.{Marks, marks_none, marks-more, marks-same}
+use Rattle.counter.proofs.BitMarks.{Marks}
 use Rattle.counter.proofs.soundness.bits_of.Given as goal
 
 abbrev pub invariant-loop-n : goal.invariant-loop-n

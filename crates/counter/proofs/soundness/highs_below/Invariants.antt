@@ -1,8 +1,6 @@
 -- What the loop of `soundness::highs_below` keeps.
-use mathlib.Core.Bool.{false≢true}
-use Rattle.std.proofs.Common.{ℕ, ◌+◌, ◌-◌, ◌<◌, ◌≤◌, arith, rules, below_more}
+use Rattle.std.proofs.Common.{ℕ, ◌+◌, ◌-◌, ◌<◌, ◌≤◌}
 use Rattle.counter.specs.Map.{pointer_of}
-use borrow.Author.Tests.{not-false}
 use Rattle.counter.proofs.soundness.highs_below.Given as goal
 
 abbrev pub invariant-loop-n : goal.invariant-loop-n

@@ -1,11 +1,8 @@
 -- What the loop of `soundness::in_order` keeps.
-use Rattle.std.proofs.Common.{◌≡◌, ◌-◌, ◌≤◌, true, sym, refl, ◌∙◌, arith, rules}
-use borrow.Author.Tests.{not-true, not-false}
+use Rattle.std.proofs.Common.{◌≡◌, ◌-◌, ◌≤◌, true}
 use Rattle.counter.specs.Slots.{kind_of, every}
 use Rattle.counter.specs.Map.{pointer_of}
 use Rattle.counter.specs.Spares.{gap_to, may_try}
-use Rattle.counter.proofs.RangeTests.{every_more, every_not}
-use Rattle.counter.proofs.Gaps.{gap_more}
 use Rattle.counter.proofs.soundness.in_order.Given as goal
 
 abbrev pub invariant-loop-slot : goal.invariant-loop-slot

@@ -1,8 +1,7 @@
 -- What the loop of `soundness::is_new` keeps.
-use Rattle.std.proofs.Common.{◌≡◌, ◌-◌, ◌≤◌, true, not, eqb, sym, ap, ◌∙◌, arith, rules, eq-eqb, ne_eqb}
+use Rattle.std.proofs.Common.{◌≡◌, ◌-◌, ◌≤◌, true, not, eqb}
 use Rattle.counter.specs.Slots.{every}
 use Rattle.counter.specs.Inside.{listed}
-use Rattle.counter.proofs.RangeTests.{every_more, every_not}
 use Rattle.counter.proofs.soundness.is_new.Given as goal
 
 abbrev pub invariant-loop-i : goal.invariant-loop-i

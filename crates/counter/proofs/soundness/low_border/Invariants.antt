@@ -1,5 +1,5 @@
 -- What the loop of `soundness::low_border` keeps.
-use Rattle.std.proofs.Common.{ℕ, ◌+◌, ◌-◌, ◌<◌, ◌≤◌, arith, rules, below_more}
+use Rattle.std.proofs.Common.{ℕ, ◌+◌, ◌-◌, ◌<◌, ◌≤◌}
 use Rattle.counter.specs.Map.{pointer_of}
 use Rattle.counter.proofs.soundness.low_border.Given as goal
 

@@ -1,9 +1,8 @@
 -- What the loop of `spares::gap_of` keeps.
-use Rattle.std.proofs.Common.{◌≡◌, ◌-◌, ◌*◌, ◌≤◌, ap, ◌∙◌, arith, rules}
+use Rattle.std.proofs.Common.{◌≡◌, ◌-◌, ◌≤◌}
 use Rattle.counter.specs.declared.places.Places.{Places}
 use Rattle.counter.specs.Map.{pointer_of}
-use Rattle.counter.specs.Spares.{whole_area, gap_to, gap_of}
-use Rattle.counter.proofs.Gaps.{gap_more}
+use Rattle.counter.specs.Spares.{whole_area, gap_to}
 use Rattle.counter.proofs.spares.gap_of.Given as goal
 
 abbrev pub invariant-loop-slot : goal.invariant-loop-slot

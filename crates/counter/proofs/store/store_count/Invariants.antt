@@ -1,22 +1,13 @@
 -- What the loop of `store::store_count` keeps.
-use Rattle.std.proofs.Common.{◌≡◌, ◌+◌, ◌-◌, ◌*◌, ◌%◌, ◌<◌, ◌≤◌, true, false, [], length, sym, refl, ap, ◌∙◌, arith, rules}
-use Rattle.code.specs.Codes.{code_of}
-use Rattle.code.specs.Nibbles.{nibble_of}
-use Rattle.cells.specs.declared.row.Found.TheVariants.{Nowhere}
+use Rattle.std.proofs.Common.{◌≡◌, ◌-◌, ◌*◌, ◌≤◌, true, length}
 use Rattle.cells.specs.Chip.{chip}
-use Rattle.cells.specs.Run.{Seen}
-use Rattle.cells.specs.Cut.{Says}
-use Rattle.cells.proofs.Cuts.{Left, left_all, left_none, said_as, said_same, said_view}
-use Rattle.counter.specs.declared.verdict.Work.{Work}
+use Rattle.cells.proofs.Cuts.{Left}
 use Rattle.counter.specs.declared.verdict.Work.TheVariants.{Done}
 use Rattle.counter.specs.Map.{sound}
-use Rattle.counter.specs.Store.{slot_code, store_slot, store}
-use Rattle.counter.specs.Inside.{fitted, stopped, loss_of, told}
-use Rattle.counter.proofs.Ready.{pointers, ready_placed}
-use Rattle.counter.proofs.Fitted.{fitted_ready, ready_short}
-use Rattle.counter.proofs.Behind.{stopped_not, works_view, works_enough, behind_works, behind_left}
-use Rattle.counter.proofs.StoreViews.{slot_settled, store_left, store_left_all, store_left_none, store_left_done, store_left_stopped}
-use Rattle.counter.proofs.StoreCosts.{slot_few}
+use Rattle.counter.specs.Store.{store}
+use Rattle.counter.specs.Inside.{fitted}
+use Rattle.counter.proofs.Ready.{pointers}
+use Rattle.counter.proofs.StoreViews.{store_left}
 use Rattle.counter.proofs.store.store_count.Given as goal
 
 abbrev pub invariant-loop-slot : goal.invariant-loop-slot
