@@ -52,11 +52,11 @@ module _ (layout : Layout) (p : Places) (s : Chip) where
 -- where no pointer may have moved, no spare was tried, and the call did not end with 11
 no_tries : (says : Answer) → may_have_moved says ≡ false → says.tried ≡ 0
 unfolding may_have_moved
-no_tries says e = go (ltb 0 says.tried) refl
+no_tries says e = grind (arith, nat_tests)
 
 not_lost : (says : Answer) → may_have_moved says ≡ false → says.code ≡ 11 → ⊥
 unfolding may_have_moved
-not_lost says e h = ?
+not_lost says e h = grind (arith, nat_tests)
 
 module _ (layout : Layout) (p : Places) where
   -- the ends behind an outcome are those of its map, given those before it
