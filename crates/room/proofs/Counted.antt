@@ -18,7 +18,7 @@ use Rattle.counter.specs.Slots.{kind_of}
 use Rattle.room.specs.Room.{past, is_spare, count}
 use Rattle.counter.proofs.RangeTests.{both_hold, hold_both, every_all, all_every, never}
 use Rattle.counter.proofs.SoundPointers.{test_reach, reach_test}
-use Rattle.counter.proofs.Gaps.{Between, Free, Spare, free_spare, spare_free}
+use Rattle.counter.proofs.Gaps.{Between, Spare, free_spare, spare_free}
 
 -- ## A range
 

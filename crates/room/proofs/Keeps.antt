@@ -3,13 +3,13 @@
 --                             a kept door gives what the plain one or its trial gives, whatever ends it is passed
 --   ends_kept                 from a first opening on they are those of the map, behind any calls
 --   room_kept                 so the room that they leave is the one counted from the whole map
-use Prim.Native.Nat.{ℕ, ◌<◌}
+use Prim.Native.Nat.{ℕ}
 use mathlib.Core.Path.{◌≡◌, refl, sym, ap, ◌∙◌}
-use mathlib.Core.Bool.{Bool, true, false, cond, ◌||◌, true≢false}
+use mathlib.Core.Bool.{Bool, true, false, cond}
 use mathlib.Core.List.{List, [], ◌∷◌}
 use mathlib.Core.Logic.{◌⊎◌, inl, inr}
 use native.Mathlib.Omega.{arith}
-use lib.Dec.{ltb, eqb}
+use Rattle.std.proofs.lemmas.Bool.Decides.{nat_tests}
 use Rattle.cells.specs.Chip.{Chip}
 use Rattle.counter.specs.declared.ends.Ends.{Ends}
 use Rattle.counter.specs.declared.layout.Layout.{Layout}
@@ -79,7 +79,7 @@ module _ (layout : Layout) (p : Places) where
     where
       go : (trial_step_of layout p power torn s ≡ step_of layout p s) ⊎ ((trial_step_of layout p power torn s).says.code ≡ 11) → Keeps s (trial_step_of layout p power torn s)
       go (inl same) = rw same (step_keeps s)
-      go (inr lost) = keeps s _ (λ e. absurd (not_lost _ e lost))
+      go (inr lost) = keeps s (trial_step_of layout p power torn s) (λ e. absurd {0} (not_lost _ e lost))
 
   -- ## And behind a list of calls
 

@@ -1,6 +1,5 @@
 -- `kept::ends_behind` meets its contract.
 use mathlib.Core.Path.{sym, ◌∙◌}
-use borrow.Author.Rules.{rules}
 use Rattle.room.specs.Kept.{ends_after}
 use Rattle.room.proofs.kept.ends_behind.Goals as goal
 

@@ -1,6 +1,5 @@
 -- `kept::kept_open` meets its contract: what the door gave, and the ends behind it.
 use mathlib.Core.Path.{ap, ◌∙◌}
-use borrow.Author.Rules.{rules}
 use Rattle.counter.specs.Layout.{two}
 use Rattle.room.specs.Kept.{kept, open_kept, kept_open_of}
 use Rattle.room.proofs.kept.kept_open.Goals as goal

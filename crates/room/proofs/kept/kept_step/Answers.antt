@@ -1,6 +1,5 @@
 -- `kept::kept_step` meets its contract: what the door gave, and the ends behind it.
 use mathlib.Core.Path.{ap, ◌∙◌}
-use borrow.Author.Rules.{rules}
 use Rattle.counter.specs.Layout.{two}
 use Rattle.room.specs.Kept.{kept, step_kept, kept_step_of}
 use Rattle.room.proofs.kept.kept_step.Goals as goal

@@ -1,5 +1,4 @@
 -- `kept::may_have_moved` meets its contract.
-use borrow.Author.Rules.{rules}
 use borrow.Author.Tests.{eq-eqb, ne_eqb, lt-ltb, le-ltb}
 use Rattle.room.specs.Kept.{may_have_moved}
 use Rattle.room.proofs.kept.may_have_moved.Goals as goal

@@ -1,6 +1,5 @@
 -- `left::room_of` meets its contract: the ends leave the room that is counted.
 use mathlib.Core.Path.{ap, ◌∙◌}
-use borrow.Author.Rules.{rules}
 use Rattle.counter.specs.Layout.{two}
 use Rattle.room.specs.Room.{left_of}
 use Rattle.room.proofs.Rooms.{left_counted}
