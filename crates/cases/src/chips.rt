@@ -19,7 +19,7 @@ pub const MAP: usize = 1;
 pub const START: usize = 25;
 
 // A chip and its setting. The cells and lives above `size` are not the chip's: no door sees them.
-#[derive(Drop)]
+#[derive(Clone, Copy)]
 pub struct Chip {
     pub image: [u8; 512],
     pub lives: [u32; 512],
@@ -30,7 +30,7 @@ pub struct Chip {
 }
 
 // What a door leaves: its answer, and the chip as it is then.
-#[derive(Drop)]
+#[derive(Clone, Copy)]
 pub struct Done {
     pub answer: Answer,
     pub chip: Chip,

@@ -9,35 +9,35 @@ use card::Card;
 const LONGEST: usize = 1706;
 
 // The signs from `length` on are not the text's: no door sees them.
-#[derive(Drop)]
+#[derive(Clone, Copy)]
 pub struct Text {
     pub signs: [u8; 1706],
     pub length: usize,
 }
 
 // What writing leaves: its answer, and the text.
-#[derive(Drop)]
+#[derive(Clone, Copy)]
 pub struct Written {
     pub answer: intelhex::Answer,
     pub text: Text,
 }
 
 // The same of a card.
-#[derive(Drop)]
+#[derive(Clone, Copy)]
 pub struct WrittenCard {
     pub answer: card::Written,
     pub text: Text,
 }
 
 // What reading leaves: its answer, and the chip as it is then.
-#[derive(Drop)]
+#[derive(Clone, Copy)]
 pub struct Taken {
     pub answer: intelhex::Answer,
     pub chip: Chip,
 }
 
 // What a tray leaves: its code, and the rows.
-#[derive(Drop)]
+#[derive(Clone, Copy)]
 pub struct Entries {
     pub code: u32,
     pub counts: [u32; 64],

@@ -1,5 +1,7 @@
 // Reads an Intel HEX text on standard input (document 02, P2) and prints the raw image, of as many bytes as the argument says. A text
 // that is refused is refused by a line on standard error, and nothing is printed.
+#![tactic(auto)]
+
 mod lengths;
 mod refusals;
 
@@ -8,7 +10,8 @@ ghost use Rattle.intelhex.specs.Doors.{read_of};
 ghost use Rattle.text.specs.Text.{Wrote};
 ghost use Rattle.fromhex.specs.Refusals.{refusal_of, longest};
 
-use libc::{STDERR_FILENO, STDIN_FILENO, STDOUT_FILENO};
+use std::env::Env;
+use std::io::{Print, Read};
 
 // Reads a text into an image, writes the line that refuses it at the start of another text, and answers how long the line is: 0 where
 // nothing is refused.
@@ -19,35 +22,57 @@ fn convert(text: &[u8], image: &mut [u8], line: &mut [u8]) -> usize
     refusals::fill(intelhex::read_image(text, image), line)
 }
 
+// Reads until a buffer is full, the input ends or a read fails, and answers how many bytes stand at the buffer's start.
+fn read_full(input: &mut impl Read, buffer: &mut [u8]) -> usize
+    ensures { result ≤ length buffer.new }
+{
+    let mut done = 0;
+    while done < buffer.len() {
+        let Ok(more) = input.read(&mut buffer[done..]) else {
+            break;
+        };
+        if more == 0 {
+            break;
+        }
+        done += more;
+    }
+    done
+}
+
+// Says something on standard error. If that cannot be written either, there is nobody left to tell.
+fn say(errors: &impl Print, words: &[u8]) {
+    let _ = errors.write_all(words);
+}
+
 // Prints all of an image, or says that it cannot: an image that is cut short must not pass for a whole one.
-fn print(image: &[u8]) {
-    if !io::write_all(STDOUT_FILENO, image) {
-        io::write_all(STDERR_FILENO, b"the image cannot be written\n");
+fn print(output: &impl Print, errors: &impl Print, image: &[u8]) {
+    if output.write_all(image).is_err() {
+        say(errors, b"the image cannot be written\n");
     }
 }
 
 // The argument, or none of it where it has more than 4096 digits, which is refused as 0 is.
-fn argument() -> usize
+fn argument(environment: &impl Env) -> usize
     ensures { result ≤ 4097 }
 {
-    let mut digits = io::buffer();
-    let size = os::arg(1, &mut digits);
+    let mut digits = [0u8; 4096];
+    let size = environment.arg(1, &mut digits).unwrap_or(0);
     lengths::asked(&digits[..size])
 }
 
 // A text that is read into 4096 bytes or fewer has at most 61453 bytes: 15 for each byte, which has a record of its own that ends with
-// CR LF, and 13 for the end record. So the rest of a text of more than 65536 changes no answer (a theorem of hex, `cut-reads`), and is
-// not read.
-fn main() {
-    let n = argument();
-    let mut text = io::large_buffer();
-    let size = io::read_full(STDIN_FILENO, &mut text);
+// CR LF, and 13 for the end record. So the rest of a text of more than 65536 changes no answer (a theorem of intelhex, `cut_reads`), and
+// is not read.
+fn main(rt: HostRuntime) {
+    let n = argument(&rt);
+    let mut text = [0u8; 65536];
+    let size = read_full(&mut rt.stdin(), &mut text);
     let mut image = [0u8; lengths::TOO_LONG];
     let mut line = [0u8; refusals::LONGEST];
     let end = convert(&text[..size], &mut image[..n], &mut line);
     if end == 0 {
-        print(&image[..n]);
+        print(&rt.stdout(), &rt.stderr(), &image[..n]);
         return;
     }
-    io::write_all(STDERR_FILENO, &line[..end]);
+    say(&rt.stderr(), &line[..end]);
 }

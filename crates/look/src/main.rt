@@ -1,5 +1,7 @@
 // Reads a raw image of setting A on standard input and prints the read: its code, count, lag and place (document 01, "Measured
 // on the bench"), and which bits were mended (document 02, P1).
+#![tactic(auto)]
+
 mod lines;
 
 ghost use Rattle.std.specs.Prelude.{◌≤◌, length};
@@ -9,7 +11,7 @@ ghost use Rattle.counter.specs.Doors.{read_answer_of};
 ghost use Rattle.text.specs.Text.{Wrote};
 ghost use Rattle.look.specs.Look.{longest, look_text};
 
-use libc::{STDIN_FILENO, STDOUT_FILENO};
+use std::io::{Print, Read};
 
 // Setting A: the map's place, the area's first and last cell.
 const MAP: usize = 1;
@@ -27,11 +29,28 @@ fn look(image: &[u8], text: &mut [u8]) -> usize
     lines::fill(counter::doors::read(image, MAP, START, END), text)
 }
 
+// Reads until a buffer is full, the input ends or a read fails, and answers how many bytes stand at the buffer's start.
+fn read_full(input: &mut impl Read, buffer: &mut [u8]) -> usize
+    ensures { result ≤ length buffer.new }
+{
+    let mut done = 0;
+    while done < buffer.len() {
+        let Ok(more) = input.read(&mut buffer[done..]) else {
+            break;
+        };
+        if more == 0 {
+            break;
+        }
+        done += more;
+    }
+    done
+}
+
 // An image of more than 4096 bytes is refused whatever it holds, so no more than 4097 are read.
-fn main() {
+fn main(rt: HostRuntime) {
     let mut image = [0u8; 4097];
-    let size = io::read_full(STDIN_FILENO, &mut image);
+    let size = read_full(&mut rt.stdin(), &mut image);
     let mut text = [0u8; lines::LONGEST];
     let end = look(&image[..size], &mut text);
-    io::write_all(STDOUT_FILENO, &text[..end]);
+    let _ = rt.stdout().write_all(&text[..end]);
 }

@@ -1,9 +1,11 @@
 // Reads a card's text on standard input and a raw image of setting A from the file that the argument names, and prints what the card
 // answers at the chip's count (document 02, P4). What a refusal means is said on standard error.
+#![tactic(auto)]
+
 mod lines;
 mod words;
 
-ghost use Rattle.std.specs.Prelude.{length};
+ghost use Rattle.std.specs.Prelude.{◌≤◌, length};
 ghost use Rattle.counter.specs.Layout.{two};
 ghost use Rattle.counter.specs.Places.{setting_a};
 ghost use Rattle.counter.specs.Doors.{read_of};
@@ -11,7 +13,9 @@ ghost use Rattle.card.specs.Answers.{chip_refused, chip_answer_of};
 ghost use Rattle.card.specs.Doors.{Told};
 
 use card::{Answer, ChipAnswer};
-use libc::{STDERR_FILENO, STDIN_FILENO, STDOUT_FILENO};
+use std::env::Env;
+use std::fs::{File, Files};
+use std::io::{Print, Read};
 
 // Setting A: the map's place, the area's first and last cell.
 const MAP: usize = 1;
@@ -41,44 +45,69 @@ fn answer(text: &[u8], image: &[u8]) -> ChipAnswer
     card::answer_of_chip(held, image, MAP, START, END)
 }
 
+// Reads until a buffer is full, the input ends or a read fails, and answers how many bytes stand at the buffer's start.
+fn read_full(input: &mut impl Read, buffer: &mut [u8]) -> usize
+    ensures { result ≤ length buffer.new }
+{
+    let mut done = 0;
+    while done < buffer.len() {
+        let Ok(more) = input.read(&mut buffer[done..]) else {
+            break;
+        };
+        if more == 0 {
+            break;
+        }
+        done += more;
+    }
+    done
+}
+
+// Says something on standard error. If that cannot be written either, there is nobody left to tell.
+fn say(errors: &impl Print, words: &[u8]) {
+    let _ = errors.write_all(words);
+}
+
 // Prints what a card answers, and says what a refusal means.
-fn tell(answer: ChipAnswer) {
+fn tell(output: &impl Print, errors: &impl Print, answer: ChipAnswer) {
     let mut text = [0u8; lines::LONGEST];
     let end = lines::fill(answer, &mut text);
-    if !io::write_all(STDOUT_FILENO, &text[..end]) {
-        io::write_all(STDERR_FILENO, b"the lines cannot be written\n");
+    if output.write_all(&text[..end]).is_err() {
+        say(errors, b"the lines cannot be written\n");
     }
     let mut said = [0u8; words::LONGEST];
     let last = words::fill(answer, &mut said);
-    io::write_all(STDERR_FILENO, &said[..last]);
+    say(errors, &said[..last]);
 }
 
-// The file that the argument names, or a descriptor below 0 where it cannot be opened.
-fn chip() -> i32 {
-    let mut path = io::buffer();
-    let size = os::arg(1, &mut path);
-    os::open_read(&path[..size])
+// The file that the argument names, where it can be opened. A name that is no UTF-8 opens nothing: ./lyre hands on that of a descriptor.
+fn chip<R: Env + Files>(rt: &R) -> Option<R::File> {
+    let mut path = [0u8; 4096];
+    let size = rt.arg(1, &mut path).ok()?;
+    let name = str::from_utf8(&path[..size]).ok()?;
+    File::open(rt, name).ok()
 }
 
 // An image of more than 4096 bytes is refused whatever it holds, so no more than 4097 are read. The text of a card that is not refused
 // has at most 1706 bytes; of one that fills the buffer it is not known whether it is in form.
-fn main() {
-    let mut text = io::large_buffer();
-    let size = io::read_full(STDIN_FILENO, &mut text);
+fn main(rt: HostRuntime) {
+    let mut text = [0u8; 65536];
+    let size = read_full(&mut rt.stdin(), &mut text);
     if size == 65536 {
-        io::write_all(
-            STDERR_FILENO,
+        say(
+            &rt.stderr(),
             b"card: 65536 bytes or more: the text is not in form, or has more than 64 runs\n",
         );
         return;
     }
-    let file = chip();
-    if file < 0 {
-        io::write_all(STDERR_FILENO, b"chip: cannot be opened\n");
+    let Some(mut file) = chip(&rt) else {
+        say(&rt.stderr(), b"chip: cannot be opened\n");
         return;
-    }
+    };
     let mut image = [0u8; 4097];
-    let n = io::read_full(file, &mut image);
-    libc::close(file);
-    tell(answer(&text[..size], &image[..n]));
+    let n = read_full(&mut file, &mut image);
+    tell(
+        &rt.stdout(),
+        &rt.stderr(),
+        answer(&text[..size], &image[..n]),
+    );
 }

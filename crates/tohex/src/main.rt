@@ -1,17 +1,19 @@
 // Reads a raw image on standard input and prints its Intel HEX text (document 02, P2). An image that has none is refused by a line on
 // standard error, and nothing is printed.
+#![tactic(auto)]
+
 ghost use Rattle.std.specs.Prelude.{◌≤◌, ◌≡◌, not, length};
 ghost use Rattle.intelhex.specs.Doors.{sized};
 ghost use Rattle.text.specs.Text.{Wrote};
 ghost use Rattle.tohex.specs.Told.{told_of, longest};
 
-use libc::{STDERR_FILENO, STDIN_FILENO, STDOUT_FILENO};
+use std::io::{Print, Read};
 
 // How long the text of an image is at most.
 const LONGEST: usize = 11276;
 
 // What was written at the start of a text: whether it is a refusal, and how long it is.
-#[derive(Drop)]
+#[derive(Clone, Copy)]
 struct Told {
     refused: bool,
     end: usize,
@@ -37,23 +39,45 @@ fn tell(image: &[u8], text: &mut [u8]) -> Told
     }
 }
 
+// Reads until a buffer is full, the input ends or a read fails, and answers how many bytes stand at the buffer's start.
+fn read_full(input: &mut impl Read, buffer: &mut [u8]) -> usize
+    ensures { result ≤ length buffer.new }
+{
+    let mut done = 0;
+    while done < buffer.len() {
+        let Ok(more) = input.read(&mut buffer[done..]) else {
+            break;
+        };
+        if more == 0 {
+            break;
+        }
+        done += more;
+    }
+    done
+}
+
+// Says something on standard error. If that cannot be written either, there is nobody left to tell.
+fn say(errors: &impl Print, words: &[u8]) {
+    let _ = errors.write_all(words);
+}
+
 // Prints all of a text, or says that it cannot: a text that is cut short must not pass for a whole one.
-fn print(text: &[u8]) {
-    if !io::write_all(STDOUT_FILENO, text) {
-        io::write_all(STDERR_FILENO, b"the text cannot be written\n");
+fn print(output: &impl Print, errors: &impl Print, text: &[u8]) {
+    if output.write_all(text).is_err() {
+        say(errors, b"the text cannot be written\n");
     }
 }
 
 // An image of more than 4096 bytes is refused whatever it holds, so no more than 4097 are read.
-fn main() {
+fn main(rt: HostRuntime) {
     let mut image = [0u8; 4097];
-    let size = io::read_full(STDIN_FILENO, &mut image);
+    let size = read_full(&mut rt.stdin(), &mut image);
     let mut text = [0u8; LONGEST];
     let told = tell(&image[..size], &mut text);
     let end = told.end;
     if told.refused {
-        io::write_all(STDERR_FILENO, &text[..end]);
+        say(&rt.stderr(), &text[..end]);
         return;
     }
-    print(&text[..end]);
+    print(&rt.stdout(), &rt.stderr(), &text[..end]);
 }

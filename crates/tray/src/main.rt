@@ -1,12 +1,14 @@
 // Reads images of setting A on standard input, one behind another, and prints a line for each: its number, and the code and the count
 // of its read (document 02, P7). What is no tray is refused by a line on standard error, and nothing is printed.
+#![tactic(auto)]
+
 mod lines;
 
 ghost use Rattle.std.specs.Prelude.{◌≤◌, ◌≡◌, eqb, length};
 ghost use Rattle.text.specs.Text.{Wrote};
 ghost use Rattle.tray.specs.Prints.{images_of, told_of, longest};
 
-use libc::{STDERR_FILENO, STDIN_FILENO, STDOUT_FILENO};
+use std::io::{Print, Read};
 
 // Setting A: the image's length, the map's place, the area's first and last cell.
 const LONG: usize = 129;
@@ -18,7 +20,7 @@ const START: usize = 25;
 const END: usize = 128;
 
 // What was written at the start of a text: whether it is the refusal, and how long it is.
-#[derive(Drop)]
+#[derive(Clone, Copy)]
 struct Told {
     refused: bool,
     end: usize,
@@ -43,23 +45,45 @@ fn tell(tray: &[u8], text: &mut [u8]) -> Told
     }
 }
 
+// Reads until a buffer is full, the input ends or a read fails, and answers how many bytes stand at the buffer's start.
+fn read_full(input: &mut impl Read, buffer: &mut [u8]) -> usize
+    ensures { result ≤ length buffer.new }
+{
+    let mut done = 0;
+    while done < buffer.len() {
+        let Ok(more) = input.read(&mut buffer[done..]) else {
+            break;
+        };
+        if more == 0 {
+            break;
+        }
+        done += more;
+    }
+    done
+}
+
+// Says something on standard error. If that cannot be written either, there is nobody left to tell.
+fn say(errors: &impl Print, words: &[u8]) {
+    let _ = errors.write_all(words);
+}
+
 // Prints all of a text, or says that it cannot: lines that are cut short must not pass for whole ones.
-fn print(text: &[u8]) {
-    if !io::write_all(STDOUT_FILENO, text) {
-        io::write_all(STDERR_FILENO, b"the lines cannot be written\n");
+fn print(output: &impl Print, errors: &impl Print, text: &[u8]) {
+    if output.write_all(text).is_err() {
+        say(errors, b"the lines cannot be written\n");
     }
 }
 
 // A tray has at most 8256 bytes, so no more than 8257 are read.
-fn main() {
+fn main(rt: HostRuntime) {
     let mut tray = [0u8; 8257];
-    let size = io::read_full(STDIN_FILENO, &mut tray);
+    let size = read_full(&mut rt.stdin(), &mut tray);
     let mut text = [0u8; lines::LONGEST];
     let told = tell(&tray[..size], &mut text);
     let end = told.end;
     if told.refused {
-        io::write_all(STDERR_FILENO, &text[..end]);
+        say(&rt.stderr(), &text[..end]);
         return;
     }
-    print(&text[..end]);
+    print(&rt.stdout(), &rt.stderr(), &text[..end]);
 }

@@ -1,0 +1,31 @@
+-- `write_card` meets its contract: each test gives the words of its refusal.
+use Rattle.std.proofs.Common.{arith}
+use Rattle.text.proofs.Writing.{wrote_none}
+use Rattle.stylus.specs.Prints.{card_words}
+use Rattle.stylus.proofs.OtherWords.{other_card}
+use Rattle.stylus.proofs.words.write_card.Goals as goal
+
+pub returns-then-code-eq0 : goal.returns-then-code-eq0
+unfolding card_words
+returns-then-code-eq0 c = rw c.if-code-eq0.true (wrote_none _ _ (omega arith))
+
+pub returns-then-code-eq1 : goal.returns-then-code-eq1
+unfolding card_words
+returns-then-code-eq1 c = rw c.if-code-eq1.true c.write_bytes.ensures
+
+pub returns-then-code-eq2 : goal.returns-then-code-eq2
+unfolding card_words
+returns-then-code-eq2 c = rw c.if-code-eq2.true c.write_bytes-then-code-eq2.ensures
+
+pub returns-then-code-eq3 : goal.returns-then-code-eq3
+unfolding card_words
+returns-then-code-eq3 c = rw c.if-code-eq3.true c.write_bytes-then-code-eq3.ensures
+
+pub returns-then-code-eq4 : goal.returns-then-code-eq4
+unfolding card_words
+returns-then-code-eq4 c = rw c.if-code-eq4.true c.write_bytes-then-code-eq4.ensures
+
+pub returns : goal.returns
+returns c =
+    rw (other_card _ c.if-code-eq0.false c.if-code-eq1.false c.if-code-eq2.false c.if-code-eq3.false c.if-code-eq4.false)
+    c.write_bytes-2.ensures
