@@ -43,14 +43,26 @@ use Rattle.counter.specs.contracts.doors.read_count
 use Rattle.counter.specs.contracts.doors.step
 use Rattle.counter.specs.contracts.doors.part_of
 use Rattle.counter.specs.contracts.doors.map_part
+use Rattle.counter.specs.contracts.ends.ends_of
 use Rattle.counter.specs.contracts.trials.trial_open
 use Rattle.counter.specs.contracts.trials.trial_step
 use Rattle.counter.specs.declared.verdict.Answer as verdict
 use Rattle.counter.specs.declared.doors.ReadAnswer as reading
 use Rattle.counter.specs.declared.doors.Part as doors
+use Rattle.room.specs.declared.kept.Kept as keeping
+use Rattle.room.specs.declared.left.Room as leaving
+use Rattle.room.specs.Kept.{KeptOutcome}
+use Rattle.room.specs.contracts.kept.kept_open
+use Rattle.room.specs.contracts.kept.kept_step
+use Rattle.room.specs.contracts.kept.kept_trial_open
+use Rattle.room.specs.contracts.kept.kept_trial_step
+use Rattle.room.specs.contracts.left.room_left
+use Rattle.room.specs.contracts.left.room_of
 use Rattle.lyre.specs.declared.Answer as plain
 use Rattle.lyre.specs.declared.ReadAnswer as plain_reading
 use Rattle.lyre.specs.declared.Part as plain_part
+use Rattle.lyre.specs.declared.Kept as plain_kept
+use Rattle.lyre.specs.declared.Room as plain_room
 use Rattle.lyre.specs.declared.Hex as plain_hex
 use Rattle.lyre.specs.declared.Card as plain_card
 use Rattle.lyre.specs.declared.Text as plain_text
@@ -60,6 +72,12 @@ use Rattle.lyre.specs.contracts.lyre_read
 use Rattle.lyre.specs.contracts.lyre_map_part
 use Rattle.lyre.specs.contracts.lyre_trial_open
 use Rattle.lyre.specs.contracts.lyre_trial_step
+use Rattle.lyre.specs.contracts.lyre_kept_open
+use Rattle.lyre.specs.contracts.lyre_kept_step
+use Rattle.lyre.specs.contracts.lyre_kept_trial_open
+use Rattle.lyre.specs.contracts.lyre_kept_trial_step
+use Rattle.lyre.specs.contracts.lyre_room_left
+use Rattle.lyre.specs.contracts.lyre_room_of
 use Rattle.lyre.specs.contracts.lyre_hex_write
 use Rattle.lyre.specs.contracts.lyre_hex_read
 use Rattle.lyre.specs.contracts.lyre_card_at
@@ -93,7 +111,7 @@ use Rattle.text.specs.contracts.write_signed_line
 use Prim.Native.Nat.{ℕ}
 use mathlib.Core.List.{List}
 
--- an answer, that of read, a part, the answer of Intel HEX and those of a card as they are laid out for C
+-- an answer, that of read, a part, the room, the answer of Intel HEX and those of a card as they are laid out for C
 abbrev answer_out : verdict.Answer → plain.Answer
 answer_out a = record { code = a.code; count = a.count; lag = a.lag; place = a.place; writes = a.writes; tried = a.tried }
 
@@ -104,6 +122,18 @@ read_answer_out r =
 
 abbrev part_out : doors.Part → plain_part.Part
 part_out p = record { code = p.code; start = p.start; length = p.size }
+
+abbrev room_out : leaving.Room → plain_room.Room
+room_out r = record { high = r.high; low = r.low }
+
+-- what a kept door gave, and as it is laid out for C
+abbrev kept_given : KeptOutcome → keeping.Kept
+kept_given v = record { answer = v.gives.says; ends = v.ends }
+
+abbrev kept_out : KeptOutcome → plain_kept.Kept
+kept_out v =
+    let a = v.gives.says in
+    record { code = a.code; count = a.count; lag = a.lag; place = a.place; writes = a.writes; tried = a.tried; high = v.ends.highest; low = v.ends.lowest }
 
 abbrev hex_out : hex.Answer → plain_hex.Hex
 hex_out a = record { code = a.code; line = a.line; length = a.length }
@@ -229,6 +259,27 @@ module _ {M : Type 1} (𝓤 : Ura M) where
     pub map_part_one : Sole 𝓤 map_part.ended (map_part.clauses 𝓛 mem run) (λ κs r at. handed r.ref_ptr r.now (at.1.1.1.1.1.0.now))
     map_part_one _ _ _ _ _ _ _ = both (λ one two. λ i. handed ((one.points ∙ sym two.points) i) ((one.holds ∙ sym two.holds) i) ((one.says ∙ sym two.says) i))
 
+    pub ends_of_one : Sole 𝓤 ends_of.ended (ends_of.clauses 𝓛 mem run) (λ κs r at. r)
+    ends_of_one _ _ _ _ _ _ _ = same (λ r. r)
+
+    pub kept_open_one : Sole 𝓤 kept_open.ended (kept_open.clauses 𝓛 mem run) (λ κs r at. left r at.0.now at.1.0.now)
+    kept_open_one _ _ _ _ _ _ _ = same (λ v. left (kept_given v) v.gives.leaves.cells v.gives.leaves.lives)
+
+    pub kept_step_one : Sole 𝓤 kept_step.ended (kept_step.clauses 𝓛 mem run) (λ κs r at. left r at.0.now at.1.0.now)
+    kept_step_one _ _ _ _ _ _ _ = same (λ v. left (kept_given v) v.gives.leaves.cells v.gives.leaves.lives)
+
+    pub kept_trial_open_one : Sole 𝓤 kept_trial_open.ended (kept_trial_open.clauses 𝓛 mem run) (λ κs r at. left r at.0.now at.1.0.now)
+    kept_trial_open_one _ _ _ _ _ _ _ = same (λ v. left (kept_given v) v.gives.leaves.cells v.gives.leaves.lives)
+
+    pub kept_trial_step_one : Sole 𝓤 kept_trial_step.ended (kept_trial_step.clauses 𝓛 mem run) (λ κs r at. left r at.0.now at.1.0.now)
+    kept_trial_step_one _ _ _ _ _ _ _ = same (λ v. left (kept_given v) v.gives.leaves.cells v.gives.leaves.lives)
+
+    pub room_left_one : Sole 𝓤 room_left.ended (room_left.clauses 𝓛 mem run) (λ κs r at. r)
+    room_left_one _ _ _ _ _ _ _ = same (λ r. r)
+
+    pub room_of_one : Sole 𝓤 room_of.ended (room_of.clauses 𝓛 mem run) (λ κs r at. r)
+    room_of_one _ _ _ _ _ _ _ = same (λ r. r)
+
     pub lyre_open_one : Sole 𝓤 lyre_open.ended (lyre_open.clauses 𝓛 mem run) (λ κs r at. left r (at.0.now) (at.1.0.now))
     lyre_open_one _ _ _ _ _ _ _ = same (λ v. left (answer_out v.says) v.leaves.cells v.leaves.lives)
 
@@ -249,6 +300,24 @@ module _ {M : Type 1} (𝓤 : Ura M) where
 
     pub lyre_tray_one : Sole 𝓤 lyre_tray.ended (lyre_tray.clauses 𝓛 mem run) (λ κs r at. outcome r (at.1.1.1.1.1.0.now) (at.1.1.1.1.1.1.0.now))
     lyre_tray_one _ _ _ _ _ _ _ = same (λ v. v)
+
+    pub lyre_kept_open_one : Sole 𝓤 lyre_kept_open.ended (lyre_kept_open.clauses 𝓛 mem run) (λ κs r at. left r at.0.now at.1.0.now)
+    lyre_kept_open_one _ _ _ _ _ _ _ = same (λ v. left (kept_out v) v.gives.leaves.cells v.gives.leaves.lives)
+
+    pub lyre_kept_step_one : Sole 𝓤 lyre_kept_step.ended (lyre_kept_step.clauses 𝓛 mem run) (λ κs r at. left r at.0.now at.1.0.now)
+    lyre_kept_step_one _ _ _ _ _ _ _ = same (λ v. left (kept_out v) v.gives.leaves.cells v.gives.leaves.lives)
+
+    pub lyre_kept_trial_open_one : Sole 𝓤 lyre_kept_trial_open.ended (lyre_kept_trial_open.clauses 𝓛 mem run) (λ κs r at. left r at.0.now at.1.0.now)
+    lyre_kept_trial_open_one _ _ _ _ _ _ _ = same (λ v. left (kept_out v) v.gives.leaves.cells v.gives.leaves.lives)
+
+    pub lyre_kept_trial_step_one : Sole 𝓤 lyre_kept_trial_step.ended (lyre_kept_trial_step.clauses 𝓛 mem run) (λ κs r at. left r at.0.now at.1.0.now)
+    lyre_kept_trial_step_one _ _ _ _ _ _ _ = same (λ v. left (kept_out v) v.gives.leaves.cells v.gives.leaves.lives)
+
+    pub lyre_room_left_one : Sole 𝓤 lyre_room_left.ended (lyre_room_left.clauses 𝓛 mem run) (λ κs r at. r)
+    lyre_room_left_one _ _ _ _ _ _ _ = same room_out
+
+    pub lyre_room_of_one : Sole 𝓤 lyre_room_of.ended (lyre_room_of.clauses 𝓛 mem run) (λ κs r at. r)
+    lyre_room_of_one _ _ _ _ _ _ _ = same room_out
 
     pub lyre_hex_write_one : Sole 𝓤 lyre_hex_write.ended (lyre_hex_write.clauses 𝓛 mem run) (λ κs r at. filled r (at.1.0.now))
     lyre_hex_write_one _ _ _ _ _ _ _ = same (λ v. filled (hex_out v.answer) v.left)
