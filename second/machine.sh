@@ -1,6 +1,6 @@
 # Sourced by the scripts that compile C. Sets `root`, the repository's folder; `compiler`, which makes x86-64 programs; `emulator`,
 # the word (or none) before one to run it; `symbols`, which lists what an archive defines and needs; `work`, a folder that goes
-# when the script ends; and `archive`, that of LYRE_ARCHIVE, or else the one that `rt staticlib lyre` makes.
+# when the script ends; and `archive`, that of LYRE_ARCHIVE, or else the one that `./archive` makes.
 # On x86-64 gcc is all; elsewhere Debian's cross compiler and emulator are installed where they are missing.
 
 have() {
@@ -46,5 +46,5 @@ trap 'rm -rf "$work"' EXIT
 archive=$(readlink -m "${LYRE_ARCHIVE:-$root/target/staticlib/liblyre.a}")
 
 need_archive() {
-    [ -f "$archive" ] || { echo "no archive at $archive (rt staticlib lyre makes it)" >&2; exit 2; }
+    [ -f "$archive" ] || { echo "no archive at $archive (./archive makes it)" >&2; exit 2; }
 }

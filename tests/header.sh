@@ -1,6 +1,6 @@
 #!/bin/sh
-# tests/header.sh: holds include/lyre.h to crates/lyre/src/lib.rt. What the source exports, written as C, has to be all that the
-# header declares, in the same order; and a C compiler has to lay the structs out as #[repr(C)] does.
+# tests/header.sh: holds include/lyre.h to crates/lyre and crates/lyre_c. The structs for C of the one and what the other exports, written
+# as C, have to be all that the header declares, in the same order; and a C compiler has to lay the structs out as #[repr(C)] does.
 set -eu
 . "$(dirname "$0")/../second/machine.sh"
 
@@ -11,12 +11,16 @@ lay() {
 
 # A slice is a pointer and a length; an image's length is called n, a text's room where it is written into, and that of a text or a
 # tray that is read, length.
-sed 's:^ *//.*::' "$root/crates/lyre/src/lib.rt" |
-    lay '#\[repr\(C\)\] pub struct [^}]*\}|#\[no_mangle\] pub extern "C" fn [^)]*\)-> \w+' |
+{
+    sed 's:^ *//.*::' "$root/crates/lyre/src/lib.rt" | lay '#\[repr\(C\)\] (#\[derive[^]]*\] )?pub struct [^}]*\}'
+    sed 's:^ *//.*::' "$root/crates/lyre_c/src/lib.rt" | lay '#\[unsafe\(no_mangle\)\] pub extern "C" fn [^)]*\)-> (lyre::)?\w+'
+} |
     sed -E '
+        s/lyre:://g
+        s/#\[derive[^]]*\] //
         s/([a-z])([A-Z])/\1_\2/g
         s/#\[repr\(C\)\] pub struct (\w+)\{(.*)\}/typedef struct{\2} lyre_\L\1;/
-        s/#\[no_mangle\] pub extern "C" fn (\w+)\((.*)\)-> (\w+)/lyre_\L\3\E \1(\2);/
+        s/#\[unsafe\(no_mangle\)\] pub extern "C" fn (\w+)\((.*)\)-> (\w+)/lyre_\L\3\E \1(\2);/
         s/^lyre_u32 /uint32_t /
         s/(\w+): &mut \[u(8|32)\]/uint\2_t *\1, size_t \1_n/g
         s/(\w+): &\[u(8|32)\]/const uint\2_t *\1, size_t \1_n/g

@@ -1,7 +1,8 @@
 #!/bin/sh
-# tests/promised.sh: every public function of a library crate has an `ensures`, and it is proved that its contract leaves one answer;
-# no door of the counter, of hex, of card, of dumps or for C has a `requires`; no definition but the inside's own rests on a
-# specs/Inside.antt; and only the cells index lives, so that what they promise is all that the crates above them know of lives.
+# tests/promised.sh: every public function of a library crate has an `ensures`, and it is proved that its contract leaves one answer; what
+# the archive for C exports is a function of the library lyre, with its arguments and its clauses; no door of the counter, of intelhex, of
+# card, of dumps or for C has a `requires`; no definition but the inside's own rests on a specs/Inside.antt; and only the cells index lives,
+# so that what they promise is all that the crates above them know of lives.
 set -eu
 cd "$(dirname "$0")/.."
 
@@ -15,20 +16,40 @@ heads() {
     ' "$@"
 }
 
+# whole FILE..: a line for each public function: its whole head, however it is laid out and whether or not it is for C
+whole() {
+    awk '
+        /^ *pub (extern "C" )?fn / { head = ""; open = 1 }
+        open && /^\{$/ { print head; open = 0 }
+        open { head = head " " $0 }
+    ' "$@" | sed -E 's/extern "C" //; s/\blyre:://g; s/ +/ /g; s/\( /(/; s/,? \)/)/; s/^ //' | sort
+}
+
+# The libraries, and what is no library but made of one: the archive for C.
+libraries() {
+    sed -n '/staticlib/!s/[ :].*//p' crates.txt
+}
+
 public() {
-    for crate in crates/*/; do
-        [ ! -f "$crate/src/lib.rt" ] || heads "$crate"src/*.rt
+    libraries | while read -r crate; do
+        [ ! -f "crates/$crate/src/lib.rt" ] || heads "crates/$crate"/src/*.rt
     done
 }
 
 [ "$(public | wc -l)" -gt 0 ] || { echo 'promised: no public function was found'; exit 1; }
 public | grep -v ensures && { echo 'promised: these promise nothing'; exit 1; }
-heads crates/counter/src/doors.rt crates/counter/src/trials.rt crates/hex/src/lib.rt crates/card/src/lib.rt crates/dumps/src/*.rt crates/lyre/src/lib.rt | grep requires && { echo 'promised: these ask something'; exit 1; }
+heads crates/counter/src/doors.rt crates/counter/src/trials.rt crates/intelhex/src/lib.rt crates/card/src/lib.rt crates/dumps/src/*.rt \
+    crates/lyre/src/lib.rt crates/lyre_c/src/lib.rt | grep requires && { echo 'promised: these ask something'; exit 1; }
 public | awk '{ print $2 }' | while read -r name; do
-    theorem=$(echo "$name" | tr _ -)-one
     # NoSecond.antt calls the module of `open` opens
-    grep -Eq "^ *pub $theorem : Sole 𝓤 ${name}s?\.ended " crates/sole/proofs/NoSecond.antt || echo "$name"
+    grep -Eq "^ *pub ${name}_one : Sole 𝓤 ${name}s?\.ended " crates/sole/proofs/NoSecond.antt || echo "$name"
 done | grep . && { echo 'promised: of these it is not proved that they leave one answer'; exit 1; }
+work=$(mktemp -d)
+trap 'rm -rf "$work"' EXIT
+whole crates/lyre/src/lib.rt >"$work/library"
+whole crates/lyre_c/src/lib.rt >"$work/archive"
+[ -s "$work/archive" ] || { echo 'promised: no export was found'; exit 1; }
+diff "$work/library" "$work/archive" || { echo 'promised: the archive (>) promises something else than the library lyre does (<)'; exit 1; }
 grep -l 'specs\.Inside' crates/*/specs/*.antt && { echo 'promised: these rest on the inside'; exit 1; }
 # chips.rt makes the chips of the cases, lives and all.
 grep -rnE 'lives *\[' crates/*/src | grep -Ev '^crates/(cells/|cases/src/chips\.rt:)' && { echo 'promised: these index lives'; exit 1; }

@@ -12,12 +12,12 @@ import re
 import sys
 
 WORD = re.compile(r"[^\s(){}\[\];,.:=|·@\"`“”∷∙×→λ≡≤<>+*/&!?#~]+")
-DECLARED = re.compile(r"^\s*(?:(?:abbrev|unfoldable|pub|pub abbrev|mod)\s+)*((?:[^\s:(){}]+\s+)*?)([^\s:(){}]+)\s*:(?=\s)")
+DECLARED = re.compile(r"^\s*(?:(?:abbrev|unfoldable|pub|pub abbrev|mod)\s+)*((?:[^\s:(){}]+\s+)*?)([^\s:(){}]+)\s*:(?=\s|$)")
 MODIFIERS = {"abbrev", "unfoldable", "pub", "let", "record", "data", "use", "in", "where", "ruleset"}
 CAMEL = re.compile(r"(?<![\w'-])[a-z][a-z0-9]*(?:[A-Z][a-z0-9]*)+(?![\w-])")
 # Lemmas that would have a definition's name: all of these are lemmas as port.py leaves them.
 LEMMAS = {
-    "all_asked", "all_digits", "all-taken", "bit-or", "byte-of", "card-in", "chip-refused", "chip-verdict", "first_read", "image-at", "in-form", "length-good",
+    "all_asked", "all_digits", "all-taken", "bit-or", "byte-of", "card-in", "chip-refused", "chip-verdict", "data-writes", "first_read", "image-at", "in-form", "length-good",
     "line-feed", "nibble-read", "no_digit", "put-mark", "read_at", "read-lines", "slot-code", "so-far", "two_digits",
 }
 OLD_CRATE, NEW_CRATE = "hex", "intelhex"

@@ -1,4 +1,6 @@
 // The stylus card (document 02, P4): written as its one text, read from a text, and what it answers at a count.
+#![tactic(auto)]
+
 mod answering;
 mod reading;
 mod runs;
@@ -18,7 +20,7 @@ use runs::{fault_of, limit_fault};
 use writing::write_held;
 
 // A card, by value. Of the 64 places those before `runs` have a run: the speed, 33 or 45, that it was cut at, and its turns.
-#[derive(Drop)]
+#[derive(Clone, Copy)]
 pub struct Card {
     pub fitted: u32,
     pub allowed: u32,
@@ -28,14 +30,14 @@ pub struct Card {
 }
 
 // What reading a text answers: 0 or the number of the refusal, and the card.
-#[derive(Drop)]
+#[derive(Clone, Copy)]
 pub struct Read {
     pub code: u32,
     pub card: Card,
 }
 
 // What writing a card answers: 0 or the number of the refusal, and how long the text is.
-#[derive(Drop)]
+#[derive(Clone, Copy)]
 pub struct Written {
     pub code: u32,
     pub length: usize,
@@ -43,7 +45,7 @@ pub struct Written {
 
 // What a card answers at a count: 0 or the number of the refusal, turns used and turns left, and the cutting time in fifteenths of
 // a second.
-#[derive(Drop)]
+#[derive(Clone, Copy)]
 pub struct Answer {
     pub code: u32,
     pub used: u32,
@@ -52,7 +54,7 @@ pub struct Answer {
 }
 
 // The same at the count of a chip, with the code of its read.
-#[derive(Drop)]
+#[derive(Clone, Copy)]
 pub struct ChipAnswer {
     pub read: u32,
     pub answer: Answer,

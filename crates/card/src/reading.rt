@@ -8,7 +8,7 @@ use super::runs::is_speed;
 use text::reading::read_decimal_line;
 
 // What stands before the runs.
-#[derive(Drop)]
+#[derive(Clone, Copy)]
 pub(crate) struct Head {
     pub(crate) next: usize,
     pub(crate) fitted: u32,
@@ -17,7 +17,7 @@ pub(crate) struct Head {
 }
 
 // A run.
-#[derive(Drop)]
+#[derive(Clone, Copy)]
 struct Run {
     next: usize,
     speed: u32,

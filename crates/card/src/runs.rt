@@ -74,7 +74,7 @@ fn wide(n: u32) -> u64
 }
 
 // The turns of some runs, and their cutting time.
-#[derive(Drop)]
+#[derive(Clone, Copy)]
 pub(crate) struct Cut {
     pub(crate) turns: u64,
     pub(crate) time: u64,

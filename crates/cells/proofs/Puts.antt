@@ -85,13 +85,13 @@ module _ (a b : ℕ) (s : Chip) where
 
   module _ (p : Paired s) where
     -- whatever holds in the three cases holds of a put: the byte is there, or the cell takes it, or refuses it
-    pub put-cases :
+    pub put_cases :
         (P : Run Bool → Type 0)
         → (cell_at s a ≡ b → P (still true s))
         → ((cell_at s a ≡ b → ⊥) → 1 ≤ life_at s a → P (run true (write a b ∷ []) 0 (write_at a b s)))
         → (Refuses a b s → P (run false (write a b ∷ []) 0 s))
         → P (put_at a b s)
-    put-cases P f g h = put_either P f (λ n. go n (dec_le 1 (life_at s a)))
+    put_cases P f g h = put_either P f (λ n. go n (dec_le 1 (life_at s a)))
       where
         go : (cell_at s a ≡ b → ⊥) → Dec (1 ≤ life_at s a) → P (read_back a b (write_at a b s))
         go n (yes l) =
@@ -108,12 +108,12 @@ module _ (a b : ℕ) (s : Chip) where
       within = put_within;
       kept = within_kept put_within;
       held = put_held;
-      failed = put-cases (λ r. r.answer ≡ false → Refuses a b s) (λ e f. absurd (true≢false f)) (λ n l f. absurd (true≢false f)) (λ r f. r);
-      unchanged = put-cases (λ r. r.answer ≡ false → r ≡ run false (write a b ∷ []) 0 s) (λ e f. absurd (true≢false f)) (λ n l f. absurd (true≢false f)) (λ r f. refl);
+      failed = put_cases (λ r. r.answer ≡ false → Refuses a b s) (λ e f. absurd (true≢false f)) (λ n l f. absurd (true≢false f)) (λ r f. r);
+      unchanged = put_cases (λ r. r.answer ≡ false → r ≡ run false (write a b ∷ []) 0 s) (λ e f. absurd (true≢false f)) (λ n l f. absurd (true≢false f)) (λ r f. refl);
       there = put_there;
-      taken = λ n l. put-cases (λ r. r ≡ run true (write a b ∷ []) 0 (write_at a b s)) (λ e. absurd (n e)) (λ _ _. refl) (λ r. let z = r.worn in absurd (omega arith));
-      alive = λ l. put-cases (λ r. r.answer ≡ true) (λ e. refl) (λ n k. refl) (λ r. let z = r.worn in absurd (omega arith));
-      worn = λ w. put-cases (λ r. r.answer ≡ eqb (cell_at s a) b) (λ e. sym (eq-eqb _ b e)) (λ n l. absurd (omega arith)) (λ r. sym (ne_eqb _ b r.other));
+      taken = λ n l. put_cases (λ r. r ≡ run true (write a b ∷ []) 0 (write_at a b s)) (λ e. absurd (n e)) (λ _ _. refl) (λ r. let z = r.worn in absurd (omega arith));
+      alive = λ l. put_cases (λ r. r.answer ≡ true) (λ e. refl) (λ n k. refl) (λ r. let z = r.worn in absurd (omega arith));
+      worn = λ w. put_cases (λ r. r.answer ≡ eqb (cell_at s a) b) (λ e. sym (eq-eqb _ b e)) (λ n l. absurd (omega arith)) (λ r. sym (ne_eqb _ b r.other));
       life = put_either (λ r. life_at r.after a ≡ life_at s a - length r.log) (λ e. omega arith) (λ n. (write_laws a b s).life);
       asked = put_either (λ r. (r.log ≡ []) ⊎ (r.log ≡ write a b ∷ [])) (λ e. inl refl) (λ n. inr refl);
       cost = put_cost;

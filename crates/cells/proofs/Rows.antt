@@ -1,5 +1,5 @@
 -- Laws of bytes put at neighbouring cells: what it keeps, what it changes, what it costs.
-use Prim.Native.Nat.{ℕ, zero, suc, ◌+◌, ◌-◌, ◌≤◌, ◌<◌}
+use Prim.Native.Nat.{ℕ, zero, suc, ◌+◌, ◌≤◌, ◌<◌}
 use mathlib.Core.Path.{◌≡◌, refl, sym, ap, ◌∙◌}
 use mathlib.Core.Bool.{Bool, true, false, true≢false}
 use mathlib.Core.List.{List, [], ◌∷◌, ◌++◌, append_assoc}
@@ -63,12 +63,12 @@ module _ (b : ℕ) (bs : List ℕ) (a : ℕ) (s : Chip) where
   row_stop h = rw h
 
   -- whatever holds in both cases holds of a row
-  row-either :
+  row_either :
       (P : Run Found → Type 0)
       → ((put_at a b s).answer ≡ true → P (put_at a b s then put_row bs (a + 1) (put_at a b s).after))
       → ((put_at a b s).answer ≡ false → P (put_at a b s giving At a))
       → P (put_row (b ∷ bs) a s)
-  row-either P f g = go (put_at a b s).answer refl
+  row_either P f g = go (put_at a b s).answer refl
     where
       go : (t : Bool) → (put_at a b s).answer ≡ t → P (put_row (b ∷ bs) a s)
       go true h = rw (row_on h) (f h)
@@ -91,7 +91,7 @@ row_tried [] a s = refl
 row_tried (b ∷ bs) a s =
     let first = put_tried a b s in
     let rest = row_tried bs (a + 1) (put_at a b s).after in
-    row-either b bs a s (λ r. r.tried ≡ 0) (λ h. omega arith) (λ h. first)
+    row_either b bs a s (λ r. r.tried ≡ 0) (λ h. omega arith) (λ h. first)
 
 -- a row asks at most one write a byte
 pub row_cost : (bs : List ℕ) (a : ℕ) (s : Chip) → length (put_row bs a s).log ≤ length bs
@@ -100,7 +100,7 @@ row_cost [] a s = omega arith
 row_cost (b ∷ bs) a s =
     let first = put_cost a b s in
     let rest = row_cost bs (a + 1) (put_at a b s).after in
-    row-either b bs a s (λ r. length r.log ≤ suc (length bs)) (λ h. rw length-append (omega arith)) (λ h. omega arith)
+    row_either b bs a s (λ r. length r.log ≤ suc (length bs)) (λ h. rw length-append (omega arith)) (λ h. omega arith)
 
 -- the first byte stays while the rest are put
 row_first : (b : ℕ) (bs : List ℕ) (a : ℕ) (s : Chip) → (put_at a b s).answer ≡ true → cell_at (put_row bs (a + 1) (put_at a b s).after).after a ≡ b
@@ -110,7 +110,7 @@ row_first b bs a s h = (within_kept (row_within bs (a + 1) (put_at a b s).after)
 pub row_held : (bs : List ℕ) (a : ℕ) (s : Chip) → (put_row bs a s).answer ≡ Nowhere → (j : ℕ) → j < length bs → cell_at (put_row bs a s).after (a + j) ≡ get_or bs j 0
 row_held [] a s = λ e j l. absurd (omega arith)
 row_held (b ∷ bs) a s =
-    row-either b bs a s
+    row_either b bs a s
     (λ r. r.answer ≡ Nowhere → (j : ℕ) → j < suc (length bs) → cell_at r.after (a + j) ≡ get_or (b ∷ bs) j 0)
     (λ h e. go h (row_held bs (a + 1) (put_at a b s).after e))
     (λ h e j l. cc)
@@ -137,7 +137,7 @@ pub row_failed : (bs : List ℕ) (a : ℕ) (s : Chip) → Paired s → (x : ℕ)
 unfolding put_row
 row_failed [] a s p x = λ e. absurd (nowhere≢at x e)
 row_failed (b ∷ bs) a s p x =
-    row-either b bs a s
+    row_either b bs a s
     (λ r. r.answer ≡ At x → RowStopped (b ∷ bs) a s x)
     (λ h e. go (row_failed bs (a + 1) (put_at a b s).after (kept_paired (within_kept (put_within a b s)) p) x e))
     (λ h e. let same : a ≡ x = cc in record { index = 0; inside = omega arith; here = omega arith; refused = rw same at ((put_laws a b s p).failed h) })
@@ -235,7 +235,7 @@ module _ (bytes : List ℕ) (a : ℕ) where
     starts : Starts (put_at (a + i) (get_or bytes i 0) s).log (row_left bytes a i s).log
     starts =
         rw more
-        (row-either (get_or bytes i 0) (drop (i + 1) bytes) (a + i) s (λ r. Starts (put_at (a + i) (get_or bytes i 0) s).log r.log)
+        (row_either (get_or bytes i 0) (drop (i + 1) bytes) (a + i) s (λ r. Starts (put_at (a + i) (get_or bytes i 0) s).log r.log)
         (λ h. starts_append (put_at (a + i) (get_or bytes i 0) s).log _)
         (λ h. starts_same (put_at (a + i) (get_or bytes i 0) s).log))
 

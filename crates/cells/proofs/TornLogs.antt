@@ -12,7 +12,7 @@ use native.Mathlib.Decide.{ℕ_discrete}
 use native.Mathlib.Omega.{arith}
 use Rattle.cells.specs.Chip.{Chip, life_at, write_at, Kept}
 use Rattle.cells.specs.Run.{Write, Seen}
-use Rattle.cells.specs.Log.{write_all, asked_of, Every, Every.more}
+use Rattle.cells.specs.Log.{write_all, asked_of, Every, Every.more, Every.none}
 use Rattle.cells.specs.Cut.{Cut, Cut.whole, Cut.lost, tear}
 use Rattle.cells.proofs.Writes.{kept_then, kept_wider, write_laws}
 use Rattle.cells.proofs.Logs.{asked_here, asked_elsewhere}
@@ -47,6 +47,7 @@ one_kept : {Place : ℕ → Type 0} (a c : ℕ) (s : Chip) → Place a → Kept 
 one_kept {Place} a c s p = kept_wider (λ d q. subst Place (sym q) p) (write_laws a c s).kept
 
 pub torn_kept : {b : ℕ} {Place : ℕ → Type 0} {l : List Write} {s t : Chip} → Every Place l → Torn b l s t → Kept Place s t
+torn_kept none x = elim x [ ]
 torn_kept {b} (more p e) (here {w} {ws} {s}) = one_kept w.at b s p
 torn_kept (more p e) (later {w} {ws} {s} {t} torn) = kept_then (one_kept w.at w.byte s p) (torn_kept e torn)
 

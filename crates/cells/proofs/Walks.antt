@@ -101,12 +101,12 @@ module _ (n : ℕ) (way : Way) (a b : ℕ) (s : Chip) where
   walk_miss h = rw h
 
   -- whatever holds in both cases holds of a walk
-  walk-either :
+  walk_either :
       (P : Run Found → Type 0)
       → ((put_at a b s).answer ≡ true → P (try_at a b s giving At a))
       → ((put_at a b s).answer ≡ false → P (try_at a b s then walk n way (next way a) b (put_at a b s).after))
       → P (walk (suc n) way a b s)
-  walk-either P f g = go (put_at a b s).answer refl
+  walk_either P f g = go (put_at a b s).answer refl
     where
       go : (t : Bool) → (put_at a b s).answer ≡ t → P (walk (suc n) way a b s)
       go true h = rw (walk_hit h) (f h)
@@ -185,7 +185,7 @@ walk_cost zero way a b s = (omega arith, omega arith)
 walk_cost (suc n) way a b s =
     let first = put_cost a b s in
     let rest = walk_cost n way (next way a) b (put_at a b s).after in
-    walk-either n way a b s
+    walk_either n way a b s
     (λ r. (length r.log ≤ r.tried) × (r.tried ≤ suc n))
     (λ h. (first, omega arith))
     (λ h. (rw length-append (omega arith), omega arith))
@@ -224,7 +224,7 @@ module _ (cells : ℕ) (way : Way) (a b : ℕ) where
 
     starts : Starts (put_at at b s).log (walk_left cells way a b j s).log
     unfolding try_at
-    starts = rw more (walk-either (cells - (j + 1)) way at b s (λ r. Starts (put_at at b s).log r.log) (λ h. starts_same (put_at at b s).log)
+    starts = rw more (walk_either (cells - (j + 1)) way at b s (λ r. Starts (put_at at b s).log r.log) (λ h. starts_same (put_at at b s).log)
         (λ h. starts_append (put_at at b s).log _))
 
     -- the power was lost

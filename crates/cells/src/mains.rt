@@ -9,7 +9,7 @@ use crate::put::{put, write};
 use crate::row::Found;
 
 // Power for so many writes, and the byte that the write behind them leaves.
-#[derive(Drop)]
+#[derive(Clone, Copy)]
 pub struct Mains {
     pub power: usize,
     pub torn: u8,
@@ -39,7 +39,7 @@ impl Mains {
 }
 
 // What a put came to: where the power was lost, if it was; else whether the byte is there, and the writes asked for.
-#[derive(Drop)]
+#[derive(Clone, Copy)]
 pub struct PowerPut {
     pub lost: Found,
     pub held: bool,

@@ -5,7 +5,7 @@ ghost use Rattle.cells.specs.Run.{seen, view};
 ghost use Rattle.cells.specs.Put.{put_at};
 
 // What a put came to: whether the byte is there, and the writes asked for.
-#[derive(Drop)]
+#[derive(Clone, Copy)]
 pub struct BytePut {
     pub held: bool,
     pub writes: usize,

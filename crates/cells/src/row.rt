@@ -8,21 +8,21 @@ ghost use Rattle.cells.specs.Cut.{Tells};
 use crate::mains::{Mains, put_on};
 
 // Which way a row goes.
-#[derive(Drop)]
+#[derive(Clone, Copy)]
 pub enum Way {
     Up,
     Down,
 }
 
 // An address, or none.
-#[derive(Drop)]
+#[derive(Clone, Copy)]
 pub enum Found {
     At(usize),
     Nowhere,
 }
 
 // What a walk came to: where the power was lost, if it was; else where the byte held, the writes asked for, and the cells tried.
-#[derive(Drop)]
+#[derive(Clone, Copy)]
 pub struct Walked {
     pub lost: Found,
     pub found: Found,
@@ -31,7 +31,7 @@ pub struct Walked {
 }
 
 // What putting a row came to: where the power was lost, if it was; else where a put failed, and the writes asked for.
-#[derive(Drop)]
+#[derive(Clone, Copy)]
 pub struct RowPut {
     pub lost: Found,
     pub failed: Found,

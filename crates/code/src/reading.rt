@@ -7,7 +7,7 @@ use super::table::entry_of;
 
 // What a byte reads as: a nibble's own code; a byte one bit from it, with that bit's number, 0 (lowest) to 7; or nothing that
 // can be told, as 00 and FF, which erased cells show.
-#[derive(Drop)]
+#[derive(Clone, Copy)]
 pub enum Reading {
     Clean(u8),
     Mended(u8, u8),

@@ -1,7 +1,7 @@
 -- Numbers marked in a word of bits: its ones are as many as the numbers only if no two have the same bit.
 --   Marks                     the word of some numbers, of which there are so many
---   marks_none, marks-more    of none, and of one more
---   marks-same                told of the same numbers in another way
+--   marks_none, marks_more    of none, and of one more
+--   marks_same                told of the same numbers in another way
 --   or_left, or_right         a word with more bits is no smaller
 --   xor_none                  words that differ in no bit
 use Rattle.std.proofs.Common.{◌≡◌, ℕ, zero, suc, ◌+◌, ◌/◌, ◌%◌, ◌^◌, ◌≤◌, max, ◌⊎◌, sym, ap, ◌∙◌, inl, inr, mul_comm, pow-suc, div-one, arith, pow_pos}
@@ -70,10 +70,10 @@ pub marks_none : (Of : ℕ → Type 0) (place : ℕ → ℕ) → ((k : ℕ) → 
 unfolding ones
 marks_none Of place none = record { few = omega arith; marks = λ k o. absurd (none k o); apart = λ h i j o o' d e. none i o }
 
-pub marks-more :
+pub marks_more :
     {Of : ℕ → Type 0} {many : ℕ} {place : ℕ → ℕ} {word : ℕ} → Marks Of many place word → (k : ℕ)
     → Marks (λ j. Of j ⊎ (j ≡ k)) (many + 1) place (bit_or word (2 ^ place k))
-marks-more {Of} {many} {place} {word} m k =
+marks_more {Of} {many} {place} {word} m k =
     record {
       few = let h = m.few in omega (arith, h, count);
       marks = marked;
@@ -99,10 +99,10 @@ marks-more {Of} {many} {place} {word} m k =
     differ full unset i j (inr q) (inl o) d e = new unset j o (sym e ∙ ap place q)
     differ full unset i j (inr q) (inr q') d e = d (q ∙ sym q')
 
-pub marks-same :
+pub marks_same :
     {Of Other : ℕ → Type 0} {many more : ℕ} {place : ℕ → ℕ} {word : ℕ} → Marks Of many place word → ((k : ℕ) → Other k → Of k)
     → many ≡ more → Marks Other more place word
-marks-same m of e =
+marks_same m of e =
     record {
       few = rw e at m.few;
       marks = λ k o. m.marks k (of k o);

@@ -41,7 +41,7 @@ use Rattle.counter.proofs.Standings.{stands_unfit, stands_unmarked, stands_marke
 use Rattle.counter.proofs.RangeTests.{both_hold, hold_both}
 use Rattle.counter.proofs.Ready.{Ready}
 use Rattle.counter.proofs.Fitted.{fitted_ready, ready_fitted}
-use Rattle.counter.proofs.GoodVerdicts.{verdict-good}
+use Rattle.counter.proofs.GoodVerdicts.{verdict_good}
 use Rattle.counter.specs.Doors.{last_count, chip_verdict, reopening, beginning, open_run, stepping, step_run}
 use Rattle.counter.specs.Trials.{cut_outcome}
 use Rattle.counter.specs.Inside.{fitted, standing_of, loss_of}
@@ -203,14 +203,14 @@ module _ (layout : Layout) (p : Places) (s : Chip) where
     step_refused = rw e
 
   pub good_settled : {c : ℕ} {lag : ℤ} → chip_verdict layout p s ≡ Good c lag → (fitted layout p s ≡ true) × (sound layout p (pointer_of (map_in layout p s.cells)) ≡ true)
-  good_settled e = let good = (verdict-good layout p s e).1 in (ready_fitted good.ready, sound_test layout p _ good.sound)
+  good_settled e = let good = (verdict_good layout p s e).1 in (ready_fitted good.ready, sound_test layout p _ good.sound)
 
   module _ (c : ℕ) (lag : ℤ) (e : chip_verdict layout p s ≡ Good c lag) where
     pub open_on : open_run layout p s ≡ store layout p c s ending_in Good c lag
     unfolding unopened
     open_on =
-        let ready : fitted layout p s ≡ true = ready_fitted (verdict-good layout p s e).1.ready in
-        open_again (rw (ready, (verdict-good layout p s e).1.marks)) ∙ settling_good _ c lag e
+        let ready : fitted layout p s ≡ true = ready_fitted (verdict_good layout p s e).1.ready in
+        open_again (rw (ready, (verdict_good layout p s e).1.marks)) ∙ settling_good _ c lag e
 
     pub step_last : c ≡ last_count → step_run layout p s ≡ still (Refused LastCount) s
     unfolding step_run

@@ -3,15 +3,14 @@
 --   ends_used, ends_unused    the ends of one that can be used, and of one that cannot
 --   ends_same                 they are known from the image's length and its map
 --   EndsAre, ends_are         the ends in their own words: the highest High pointer and the lowest Low one
-use Rattle.std.proofs.Common.{◌≡◌, ℕ, ◌+◌, ◌-◌, ◌<◌, ◌≤◌, Bool, true, false, ◌&&◌, List, length, refl, arith}
+use Rattle.std.proofs.Common.{◌≡◌, ℕ, ◌+◌, ◌-◌, ◌<◌, ◌≤◌, true, false, List, length, refl, arith}
 use Rattle.counter.specs.declared.ends.Ends.{Ends}
 use Rattle.counter.specs.declared.map.Kind.TheVariants.{High, Low}
 use Rattle.counter.specs.declared.places.Places.{Places}
-use Rattle.counter.specs.declared.spares.Gap.{Gap}
 use Rattle.counter.specs.Layout.{Layout, slots}
 use Rattle.counter.specs.Slots.{kind_of}
 use Rattle.counter.specs.Places.{length_good, places_good}
-use Rattle.counter.specs.Map.{map_in, marked, pointer_of, sound}
+use Rattle.counter.specs.Map.{map_in, marked, pointer_of}
 use Rattle.counter.specs.Spares.{gap_of}
 use Rattle.counter.specs.Ends.{ends, none, usable, ends_of}
 use Rattle.counter.proofs.RangeTests.{both_hold}

@@ -1,7 +1,7 @@
 -- A chip that holds a count exactly, and what reading and storing make of it.
 --   read_weighed              where refusals 1 to 4 do not hold, an image reads as what its data come to
 --   Exact                     refusals 1 to 4 do not hold, and every slot's cell is its code of c
---   exact-stored              after a store of c that is done
+--   exact_stored              after a store of c that is done
 --   exact_opened              after a first opening that is done, at 0
 --   exact_reads, exact_verdict  it reads as c, with lag 0
 --   exact_still               storing c on it asks nothing and changes nothing
@@ -22,7 +22,7 @@ use Rattle.counter.specs.Places.{lives_good}
 use Rattle.counter.proofs.SoundPointers.{Sound, sound_test}
 use Rattle.counter.proofs.Ready.{pointers, data_of, Ready, ready_kept}
 use Rattle.counter.proofs.Moves.{slot_there}
-use Rattle.counter.proofs.Stores.{store-laws}
+use Rattle.counter.proofs.Stores.{store_laws}
 use Rattle.counter.proofs.Openings.{opening_laws, zero_code}
 use Rattle.counter.proofs.ReadBack.{weigh_exact}
 
@@ -38,11 +38,11 @@ pub record Exact (layout : Layout) (p : Places) (c : ℕ) (s : Chip) : Type 0 wh
   pub held : (k : ℕ) → k < slots layout → data_of layout p s k ≡ slot_code c k
 
 module _ {layout : Layout} {p : Places} {s : Chip} (ready : Ready layout p s) where
-  pub exact-stored :
+  pub exact_stored :
       (c : ℕ) → marked (map_in layout p s.cells) ≡ true → Sound (slots layout) p (pointers layout p s)
       → (store layout p c s).answer ≡ Done → Exact layout p c (store layout p c s).after
-  exact-stored c marks sound e =
-      let laws = store-laws layout p c s ready sound in
+  exact_stored c marks sound e =
+      let laws = store_laws layout p c s ready sound in
       let stored = laws.stored e in
       record {
         ready = ready_kept ready (within_kept laws.within);

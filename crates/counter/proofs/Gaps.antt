@@ -3,16 +3,16 @@
 --   between_none              before any cell is taken
 --   between_more              one more address taken
 --   between_gap, between_map  the gap of the definitions is such a gap
---   between-ordered           sound pointers leave high at or below low, and both in the area
+--   between_ordered           sound pointers leave high at or below low, and both in the area
 --   Free                      an address of a kind may be taken from a gap
 --   Spare                     the same in the document's words, over the pointers
 --   spare_free, free_spare    the two are one
---   OnFrom, free-may, may_free  and the same by the test `may_try`, from the next address on
+--   OnFrom, free_may, may_free  and the same by the test `may_try`, from the next address on
 --   walked_free, free_walked  a walk over the spares goes over just those
---   spares-tried              from the next address on, just the first `spares_of` cells may be tried
+--   spares_tried              from the next address on, just the first `spares_of` cells may be tried
 --   high_spares, low_spares   how many they are
 --   spare_fresh               no pointer is a spare
---   between-unique            a gap is all that its properties say
+--   between_unique            a gap is all that its properties say
 --   between_moved             a pointer moved to a free cell narrows the gap by it
 --   sound_joined              sound pointers, one of them put at a spare
 --   gap_more                  the gap of one slot more
@@ -107,10 +107,10 @@ unfolding gap_of
 between_map layout p pointer = between_gap (slots layout) p pointer
 
 -- sound pointers leave a gap that is none or more cells of the area
-pub between-ordered :
+pub between_ordered :
     {n : ℕ} {p : Places} {pointer : ℕ → ℕ} {g : Gap} → p.start ≤ p.end + 1 → Sound n p pointer
     → Between n p pointer g → g.high ≤ g.low
-between-ordered {n} {p} {pointer} {g} fits s b =
+between_ordered {n} {p} {pointer} {g} fits s b =
     b.least g.low
     (b.greatest p.start fits (λ k l e. (s.inside k l).from))
     (λ k l e. b.greatest (suc (pointer k)) (let h = (s.inside k l).to in omega arith) (λ j m f. s.order k j l m e f))
@@ -153,14 +153,14 @@ OnFrom High g a = g.high ≤ a
 OnFrom Low g a = a < g.low
 
 -- the free cells are those from the next address on that may be tried
-pub free-may :
+pub free_may :
     (kind : Kind) {n : ℕ} {p : Places} {pointer : ℕ → ℕ} {g : Gap} {a : ℕ} → Between n p pointer g
     → Free kind g a → OnFrom kind g a × (may_try p kind g a ≡ true)
 unfolding OnFrom may_try
-free-may High b f =
+free_may High b f =
     let i = (free_spare b f).inside in
     (f.from, hold_both _ _ (hold_both _ _ (hold_both _ _ (le-leb _ _ i.from) (le-leb _ _ i.to)) (le-leb _ _ (f.reach refl))) (lt-ltb _ _ f.to))
-free-may Low b f =
+free_may Low b f =
     let i = (free_spare b f).inside in
     (f.to, hold_both _ _ (hold_both _ _ (le-leb _ _ i.from) (le-leb _ _ i.to)) (le-leb _ _ f.from))
 
@@ -184,14 +184,14 @@ free_walked High g a f = let h = f.from in let h' = f.to in let h'' = f.reach re
 free_walked Low g a f = let h = f.from in let h' = f.to in (g.low - 1 - a, omega arith, omega arith)
 
 -- the j-th cell from the next address on may be tried exactly where j is below `spares_of`
-pub spares-tried :
+pub spares_tried :
     (kind : Kind) {n : ℕ} {p : Places} {pointer : ℕ → ℕ} {g : Gap} → 1 ≤ p.start → Between n p pointer g
     → (j : ℕ) → (j < spares_of kind g) ↔ (may_try p kind g (nth (way_of kind) (next_of kind g) j) ≡ true)
 unfolding spares_of way_of next_of OnFrom may_try
-spares-tried High {p = p} {g = g} first b j =
-    (λ l. (free-may High b (walked_free High g j l)).1, λ may. let f = may_free High p g (g.high + j) (omega arith) may in let reach = f.reach refl in omega arith)
-spares-tried Low {p = p} {g = g} first b j =
-    (λ l. (free-may Low b (walked_free Low g j l)).1, λ may. let from = leb-true g.high _ (both_hold (in_area p (g.low - 1 - j)) _ may).1 in omega arith)
+spares_tried High {p = p} {g = g} first b j =
+    (λ l. (free_may High b (walked_free High g j l)).1, λ may. let f = may_free High p g (g.high + j) (omega arith) may in let reach = f.reach refl in omega arith)
+spares_tried Low {p = p} {g = g} first b j =
+    (λ l. (free_may Low b (walked_free Low g j l)).1, λ may. let from = leb-true g.high _ (both_hold (in_area p (g.low - 1 - j)) _ may).1 in omega arith)
 
 pub high_spares : (g : Gap) → spares_of High g ≡ min 256 g.low - g.high
 unfolding spares_of
@@ -202,10 +202,10 @@ unfolding spares_of
 low_spares g = refl
 
 -- a gap is all that its properties say
-pub between-unique :
+pub between_unique :
     {n : ℕ} {p : Places} {pointer : ℕ → ℕ} {g h : Gap} → Between n p pointer g → Between n p pointer h
     → (g.high ≡ h.high) × (g.low ≡ h.low)
-between-unique {n} {p} {pointer} {g} {h} b c =
+between_unique {n} {p} {pointer} {g} {h} b c =
     let x = b.least h.high c.start c.above in
     let y = c.least g.high b.start b.above in
     let z = b.greatest h.low c.end c.below in

@@ -1,7 +1,7 @@
 -- What a good verdict says: no refusal's test failed, and the count is one of 32 bits.
 --   unless_good, found_good   a test passed on the way to a count
 --   CellsGood, cells_good     what a good verdict of an image says
---   VerdictGood, verdict-good  and of a chip
+--   VerdictGood, verdict_good  and of a chip
 --   below_last                a count of 32 bits that is not the last
 --   of_storing, cells_reads, verdict_reads  what storing alone is refused for, reading is not
 use Rattle.std.proofs.Common.{◌≡◌, ℕ, ◌-◌, ◌^◌, ◌<◌, Bool, true, false, cond, List, length, ℤ, pos, ◌-ℤ◌, refl, true≢false, arith, eqb-true}
@@ -86,11 +86,11 @@ pub record VerdictGood (layout : Layout) (p : Places) (c : ℕ) (s : Chip) : Typ
   pub sound : Sound (slots layout) p (pointers layout p s)
   pub small : c < 2 ^ 32
 
-pub verdict-good :
+pub verdict_good :
     {c : ℕ} {lag : ℤ} (layout : Layout) (p : Places) (s : Chip) → chip_verdict layout p s ≡ Good c lag
     → (verdict_of layout p s.cells ≡ Good c lag) × VerdictGood layout p c s
 unfolding chip_verdict lives_good
-verdict-good layout p s e =
+verdict_good layout p s e =
     let (paired, reads) = unless_good (lives_good s) BadLength _ e in
     let (facts, small) = cells_good layout p s.cells reads in (
       reads,

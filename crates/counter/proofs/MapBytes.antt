@@ -3,7 +3,7 @@
 --   map_whole                 it is whole where the settings are good
 --   map_same                  images that agree on the map's cells have the same map
 --   pointer_same              maps that agree on a pointer's bytes have the same pointer
---   pointer-put               the bytes of an address, read as a pointer, give the address
+--   pointer_put               the bytes of an address, read as a pointer, give the address
 --   mark_same                 maps that agree on the first two bytes are marked alike
 --   mark_put                  the mark's two bytes are a mark
 --   mark_none                 a map that starts with another byte has none
@@ -49,23 +49,23 @@ unfolding pointer_of
 pointer_same one other k same = at_same (kind_of k) one other (offset_of k) same
 
 -- the bytes of an address give the address
-at-put :
+at_put :
     (kind : Kind) (map : List ℕ) (from a : ℕ)
     → ((i : ℕ) → i < bytes_of kind → byte_at map (from + i) ≡ get_or (pointer_bytes kind a) i 0)
     → pointer_at kind map from ≡ a
 unfolding pointer_at pointer_bytes bytes_of
-at-put Low map from a put =
+at_put Low map from a put =
     let low : byte_at map from ≡ a % 256 = rw add-zero at (put 0 (omega arith)) in
     let high : byte_at map (from + 1) ≡ a / 256 = put 1 (omega arith) in
     omega arith
-at-put High map from a put = rw add-zero at (put 0 (omega arith))
+at_put High map from a put = rw add-zero at (put 0 (omega arith))
 
-pub pointer-put :
+pub pointer_put :
     (map : List ℕ) (k a : ℕ)
     → ((i : ℕ) → i < bytes_of (kind_of k) → byte_at map (offset_of k + i) ≡ get_or (pointer_bytes (kind_of k) a) i 0)
     → pointer_of map k ≡ a
 unfolding pointer_of
-pointer-put map k a put = at-put (kind_of k) map (offset_of k) a put
+pointer_put map k a put = at_put (kind_of k) map (offset_of k) a put
 
 pub mark_same : (one other : List ℕ) → byte_at one 0 ≡ byte_at other 0 → byte_at one 1 ≡ byte_at other 1 → marked one ≡ marked other
 unfolding marked

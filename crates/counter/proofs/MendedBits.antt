@@ -1,7 +1,7 @@
 -- The counts of mended bits (document 02, P1).
 --   bits_good                 where a count is answered they are those of the data cells
 --   bits_refused              a refusal has eight zeros
---   bits_held, bits-exact     where all slots hold the count's codes nothing was mended
+--   bits_held, bits_exact     where all slots hold the count's codes nothing was mended
 use Rattle.std.proofs.Common.{◌≡◌, ℕ, ◌%◌, ◌^◌, ◌<◌, ◌≤◌, false, List, ℤ, refl, ap, ◌∙◌}
 use Rattle.cells.specs.Chip.{Chip}
 use Rattle.code.specs.Readings.{reading_of}
@@ -40,8 +40,8 @@ module _ (layout : Layout) (p : Places) (cells : List ℕ) where
   bits_held (Good c lag) e held =
       bits_good e ∙ counts_none (slots layout) _ (λ k i l. ap (λ (b : ℕ). mended_in i (reading_of b)) (held c lag refl k l) ∙ slot_unmended c k i)
 
-pub bits-exact :
+pub bits_exact :
     {layout : Layout} {p : Places} {c : ℕ} {s : Chip} → Exact layout p c s → 1 ≤ layout.copies → c < 2 ^ 32
     → bits_of layout p s.cells ≡ no_bits
-bits-exact {layout} {p} {c} {s} exact one small =
+bits_exact {layout} {p} {c} {s} exact one small =
     bits_held layout p s.cells _ (exact_reads exact one small) (λ d lag e k l. let same : c ≡ d = cc in rw same at (exact.held k l))

@@ -10,7 +10,7 @@
 --   change                    one where two bytes differ, else none
 --   slot_there                a slot that holds its byte is left alone
 --   slot_alive                a slot whose cell has life is written there
---   slot-refused              a slot whose cell refuses the byte is moved
+--   slot_refused              a slot whose cell refuses the byte is moved
 use Rattle.std.proofs.Common.{◌≡◌, ℕ, ◌+◌, ◌<◌, ◌≤◌, Bool, true, false, cond, eqb, ◌⊎◌, List, [], ◌∷◌, ◌++◌, length, sym, refl, ap, ◌∙◌, inl, inr, true≢false, append-nil, arith, ne_eqb}
 use native.Mathlib.Decide.{ℕ_discrete}
 use Rattle.cells.specs.declared.row.Found.{Found}
@@ -33,7 +33,7 @@ use Rattle.counter.specs.Map.{map_in, marked, pointer_of}
 use Rattle.counter.specs.Spares.{narrow, gap_of}
 use Rattle.counter.specs.Store.{put_pointer, try_spares, move_to, move_slot, store_slot}
 use Rattle.counter.proofs.SoundPointers.{Inside, Sound}
-use Rattle.counter.proofs.Gaps.{between_map, between-unique, between_moved, Free, Spare, free_spare, spare_fresh, sound_joined}
+use Rattle.counter.proofs.Gaps.{between_map, between_unique, between_moved, Free, Spare, free_spare, spare_fresh, sound_joined}
 use Rattle.counter.proofs.Ready.{pointers, data_of, Ready, Own, ready_kept, map_kept}
 use Rattle.counter.proofs.Pointers.{of_map, of_elsewhere, PointerLaws, pointer_laws}
 use Rattle.counter.proofs.Tries.{room, Missing, Landing, Trying, Trying.missing, Trying.landing, try_laws}
@@ -94,10 +94,10 @@ module _ {layout : Layout} {p : Places} {s : Chip} (ready : Ready layout p s) (s
   tries_asked : asked_in p.start p.end (tries layout p k b s).log ≡ length (tries layout p k b s).log
   tries_asked = asked_all p.start p.end (every_wider (λ c i. (i.from, i.to)) tries_within.places)
 
-  missing-laws :
+  missing_laws :
       Missing k (gap_at layout p s) b s
       → SlotLaws layout p k b 0 s (tries layout p k b s then still (Stopped (NoSpare k)) (tries layout p k b s).after)
-  missing-laws m =
+  missing_laws m =
       record {
         within = within_then (within_wider (λ c i. inr i) tries_within) (within_still _ _);
         mark = rw m.same;
@@ -139,7 +139,7 @@ module _ {layout : Layout} {p : Places} {s : Chip} (ready : Ready layout p s) (s
     narrowed : puts.answer ≡ Done → room_of layout p puts.after ≡ room (narrow (kind_of k) m.place (gap_at layout p s))
     narrowed e =
         let moved = between_moved (pointers layout p puts.after) (between_map layout p (pointers layout p s)) l m.free (pointing.held e) landing_others in
-        let same = between-unique (between_map layout p (pointers layout p puts.after)) moved in
+        let same = between_unique (between_map layout p (pointers layout p puts.after)) moved in
         omega arith
 
     landing_settles : puts.answer ≡ Done → Settles layout p k b 0 s (tries layout p k b s then puts)
@@ -171,7 +171,7 @@ module _ {layout : Layout} {p : Places} {s : Chip} (ready : Ready layout p s) (s
   move_laws = go (try_laws k (gap_at layout p s) b s ready.paired).trying
     where
       go : Trying k (gap_at layout p s) b s → SlotLaws layout p k b 0 s (move_slot layout p k b s)
-      go (missing m) = rw (move_missing layout p k b s m.nowhere) (missing-laws m)
+      go (missing m) = rw (move_missing layout p k b s m.nowhere) (missing_laws m)
       go (landing m) = rw (move_landing layout p k b s m.place m.here) (landing_laws m)
 
 -- ## A slot
@@ -201,10 +201,10 @@ module _ (layout : Layout) (p : Places) (k b : ℕ) (s : Chip) where
   slot_alive paired h = slot_held ((put_laws (pointers layout p s k) b s paired).alive h)
 
   -- a slot whose cell refuses the byte is moved
-  pub slot-refused :
+  pub slot_refused :
       Paired s → first.answer ≡ false
       → store_slot layout p k b s ≡ run false (write (pointers layout p s k) b ∷ []) 0 s then move_slot layout p k b s
-  slot-refused paired e = slot_failed e ∙ ap (λ (r : Run Bool). r then move_slot layout p k b r.after) ((put_laws (pointers layout p s k) b s paired).unchanged e)
+  slot_refused paired e = slot_failed e ∙ ap (λ (r : Run Bool). r then move_slot layout p k b r.after) ((put_laws (pointers layout p s k) b s paired).unchanged e)
 
   -- what the put at the slot's cell asks
   first_asked : length first.log ≤ change (data_of layout p s k) b
@@ -276,4 +276,4 @@ module _ {layout : Layout} {p : Places} {s : Chip} (ready : Ready layout p s) (s
     where
       go : (t : Bool) → (first layout p k b s).answer ≡ t → SlotLaws layout p k b (change (data_of layout p s k) b) s (store_slot layout p k b s)
       go true e = rw (slot_held layout p k b s e) (held_laws e)
-      go false e = rw (slot-refused layout p k b s ready.paired e, ne_eqb (data_of layout p s k) b (put.failed e).other) (moved_laws e)
+      go false e = rw (slot_refused layout p k b s ready.paired e, ne_eqb (data_of layout p s k) b (put.failed e).other) (moved_laws e)

@@ -1,7 +1,7 @@
 -- Storing the next count where the chip holds a count exactly: two slots change.
 --   step_changed              the code of a slot of the changed nibble changes
 --   step_stays                the code of a slot of another nibble stays
---   held-passed               slots that hold their codes are passed over
+--   held_passed               slots that hold their codes are passed over
 --   store_held                storing a count that all slots hold asks nothing and changes nothing
 --   held_next                 behind which comes the next count alone
 --   next_stored, next_is      storing the next count is storing the changed nibble's slot in each copy
@@ -69,22 +69,22 @@ still_then s work = rw zero-add
 -- ## Slots that hold their codes
 
 module _ (layout : Layout) (p : Places) (d : ℕ) where
-  pub held-passed :
+  pub held_passed :
       (m n k : ℕ) (s : Chip) → ((j : ℕ) → k ≤ j → j < k + m → data_of layout p s j ≡ slot_code d j)
       → store_from (m + n) k layout p d s ≡ store_from n (k + m) layout p d s
   unfolding store_from
-  held-passed zero n k s held = rw (zero-add, add-zero)
-  held-passed (suc m) n k s held =
+  held_passed zero n k s held = rw (zero-add, add-zero)
+  held_passed (suc m) n k s held =
       let e : suc m + n ≡ suc (m + n) = omega arith in
       let f : k + suc m ≡ k + 1 + m = omega arith in
       rw (e, f, slot_there layout p k (slot_code d k) s (held k (omega arith) (omega arith)))
-      (still_then s (store_from (m + n) (k + 1) layout p d) ∙ held-passed m n (k + 1) s (λ j l u. held j (omega arith) (omega arith)))
+      (still_then s (store_from (m + n) (k + 1) layout p d) ∙ held_passed m n (k + 1) s (λ j l u. held j (omega arith) (omega arith)))
 
   pub store_held : (s : Chip) → Holds layout p d s.cells → store layout p d s ≡ still Done s
   unfolding store store_from
   store_held s held =
       ap (λ (n : ℕ). store_from n 0 layout p d s) (sym (add-zero (slots layout)))
-      ∙ held-passed (slots layout) 0 0 s (λ j l u. held j (omega arith))
+      ∙ held_passed (slots layout) 0 0 s (λ j l u. held j (omega arith))
 
   pub held_next : (s : Chip) (work : Chip → Run Work) → Holds layout p d s.cells → store layout p d s and_then work ≡ work s
   held_next s work held = ap (λ (r : Run Work). r and_then work) (store_held s held) ∙ still_then s work
@@ -107,7 +107,7 @@ module _ (p : Places) (c : ℕ) (s : Chip) (small : c + 1 < 2 ^ 32) (ready : Rea
   last t there =
       let h = low in
       ap (λ (n : ℕ). store_from n (8 + nibble + 1) two p (c + 1) t) (sym (add-zero (7 - nibble)))
-      ∙ held-passed two p (c + 1) (7 - nibble) 0 (8 + nibble + 1) t (λ j l u. there j (omega arith) (omega arith))
+      ∙ held_passed two p (c + 1) (7 - nibble) 0 (8 + nibble + 1) t (λ j l u. there j (omega arith) (omega arith))
 
   -- the code of every other slot is the same
   stays : (t : Chip) → ((j : ℕ) → j < 16 → (j ≡ nibble → ⊥) → data_of two p t j ≡ data_of two p s j) → (j : ℕ) → j < 16 → (j % 8 ≡ nibble → ⊥) → data_of two p t j ≡ slot_code (c + 1) j
@@ -123,7 +123,7 @@ module _ (p : Places) (c : ℕ) (s : Chip) (small : c + 1 < 2 ^ 32) (ready : Rea
       let e : 15 - nibble ≡ 7 + suc (7 - nibble) = omega arith in
       let f : nibble + 1 + 7 ≡ 8 + nibble = omega arith in
       ap (λ (n : ℕ). store_from n (nibble + 1) two p (c + 1) t) e
-      ∙ held-passed two p (c + 1) 7 (suc (7 - nibble)) (nibble + 1) t (λ j l u. stays t kept j (omega arith) (λ q. omega arith))
+      ∙ held_passed two p (c + 1) 7 (suc (7 - nibble)) (nibble + 1) t (λ j l u. stays t kept j (omega arith) (λ q. omega arith))
       ∙ ap (λ (k : ℕ). store_from (suc (7 - nibble)) k two p (c + 1) t) f
       ∙ then_same (next (8 + nibble) t) (store_from (7 - nibble) (8 + nibble + 1) two p (c + 1)) (still Done) (λ d. last _ (λ j l u. after d j l u))
       ∙ then_still (next (8 + nibble) t)
@@ -140,7 +140,7 @@ module _ (p : Places) (c : ℕ) (s : Chip) (small : c + 1 < 2 ^ 32) (ready : Rea
       let h = low in
       let e : 16 ≡ nibble + suc (15 - nibble) = omega arith in
       ap (λ (n : ℕ). store_from n 0 two p (c + 1) s) e
-      ∙ held-passed two p (c + 1) nibble (suc (15 - nibble)) 0 s (λ j l u. held j (omega arith) ∙ step_stays c small j (λ q. omega arith))
+      ∙ held_passed two p (c + 1) nibble (suc (15 - nibble)) 0 s (λ j l u. held j (omega arith) ∙ step_stays c small j (λ q. omega arith))
       ∙ ap (λ (k : ℕ). store_from (suc (15 - nibble)) k two p (c + 1) s) (zero-add nibble)
       ∙ then_same (next nibble s) (store_from (15 - nibble) (nibble + 1) two p (c + 1)) (next (8 + nibble)) (λ d. rest d)
     where

@@ -7,9 +7,9 @@
 --   Taking, taking-..         how a taking stands between two turns, and its end
 --   turn-..                   one turn of it
 --   pointers-works            the pointers, as one row of bytes
---   mark-works                the mark
---   map-works                 the map: the mark behind the pointers
---   opening_lost, opening_stopped, opening-works  the whole, by how its taking ended
+--   mark_works                the mark
+--   map_works                 the map: the mark behind the pointers
+--   opening_lost, opening_stopped, opening_works  the whole, by how its taking ended
 --   taken_enough, taken_many, taken-reach  what a taking that served every slot leaves for the map
 use Rattle.std.proofs.Common.{◌≡◌, ℕ, suc, ◌+◌, ◌-◌, ◌%◌, ◌^◌, ◌<◌, ◌≤◌, Bool, true, false, List, [], ◌∷◌, ◌++◌, length, take, sym, refl, ap, ◌∙◌, append_assoc, append-nil, zero-add, arith, length-append, le-ltb, lt-ltb}
 use native.Mathlib.Nat.{sub-zero, sub_self}
@@ -50,7 +50,7 @@ use Rattle.counter.proofs.Gaps.{Free}
 use Rattle.counter.proofs.Ready.{Ready, ready_placed, ready_kept}
 use Rattle.counter.proofs.Tries.{room, Trying, Trying.missing, Trying.landing, try_laws}
 use Rattle.counter.proofs.Behind.{works_stopped, works_done, works_view, behind_works}
-use Rattle.counter.proofs.StoreViews.{mapped-works, GapFits}
+use Rattle.counter.proofs.StoreViews.{mapped_works, GapFits}
 use Rattle.counter.proofs.PointerRows.{pointers_row, row_more}
 use Rattle.counter.proofs.NextSpares.{Next, next_free, next_room, narrow_behind, spares_none, spares_held, spares_passed}
 use Rattle.counter.proofs.Takes.{AllTaken, take_laws}
@@ -265,12 +265,12 @@ module _ {n power torn : ℕ} {g₀ : Gap} {s₀ s : Chip} {bytes : List ℕ} {e
 
 -- ## The map
 
-pub mark-works :
+pub mark_works :
     (layout : Layout) (p : Places) {n b : ℕ} {s : Chip} {row : RowPut} {stored : Stored} {t : Chip}
     → Says row.lost (seen row.failed row.writes 0 t) n b (put_row mark_bytes p.map s) s → Mapped row stored
     → Says (loss_of stored.work) (told stored t) n b (put_mark layout p s) s
 unfolding put_mark
-mark-works layout p e said = mapped-works e said
+mark_works layout p e said = mapped_works e said
 
 -- it tries no spare
 mark_tried : (layout : Layout) (p : Places) (s : Chip) → (put_mark layout p s).tried ≡ 0
@@ -278,12 +278,12 @@ unfolding put_mark
 mark_tried layout p s = row_tried mark_bytes p.map s
 
 -- the bytes of the pointers are put, and the mark behind them
-pub map-works :
+pub map_works :
     (layout : Layout) (p : Places) (bytes : List ℕ) {s : Chip} {n b : ℕ} {first : Stored} {t : Chip}
     → Says (loss_of first.work) (told first t) n b (map_row bytes (p.map + 2) s) s → stopped first.work ≡ false
     → {mark both : Stored} {z : Chip} → Says (loss_of mark.work) (told mark z) (n - first.writes) b (put_mark layout p t) t → Behind first.writes first.tried mark both
     → n < 2 ^ 64 → Says (loss_of both.work) (told both z) n b (map_row bytes (p.map + 2) s and_then put_mark layout p) s
-map-works layout p bytes {s = s} {first = first} {t = t} e h {mark = mark} f sum fits =
+map_works layout p bytes {s = s} {first = first} {t = t} e h {mark = mark} f sum fits =
     let none : first.tried ≡ 0 = ap (λ (u : Seen Work). u.tried) (works_view e h) ∙ row_tried bytes (p.map + 2) s in
     behind_works (works_done e (put_mark layout p) h (row_within bytes (p.map + 2) s).logged) sum fits f
     (λ on. let last : mark.tried ≡ 0 = ap (λ (u : Seen Work). u.tried) (said_view f on) ∙ mark_tried layout p t in omega arith)
@@ -344,12 +344,12 @@ module _ (layout : Layout) (p : Places) (s : Chip) {n b : ℕ} {l : Found} {v : 
           rw (said_after taking (said_view e on)) (ready_kept ready (within_kept (take_laws (slots layout) 0 (whole_area p) s ready.paired).within))
 
       -- the map is put behind them, their pointers as one row of bytes
-      pub opening-works :
+      pub opening_works :
           (bytes : List ℕ) → bytes ≡ pointer_row v.answer.addresses 0 → {stored both : Stored} {z : Chip}
           → Says (loss_of stored.work) (told stored z) (n - v.writes) b (map_row bytes (p.map + 2) v.after and_then put_mark layout p) v.after
           → Behind v.writes v.tried stored both → n < 2 ^ 64 → Says (loss_of both.work) (told both z) n b (first_opening layout p s) s
       unfolding offset_of offset_in
-      opening-works bytes row {stored = stored} {z = z} f sum fits =
+      opening_works bytes row {stored = stored} {z = z} f sum fits =
           let none : v.tried ≡ 0 = ap (λ (u : Seen Taken). u.tried) (said_view e on) in
           let said_map : Says (loss_of stored.work) (told stored z) (n - v.writes) b (mapping v.answer.addresses v.after) v.after = rw (pointers_row layout v.answer.addresses 0 p v.after, ← row) f in
           behind_works opening_left sum fits said_map

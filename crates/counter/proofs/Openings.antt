@@ -1,6 +1,6 @@
 -- A first opening: what it keeps, what it changes.
 --   MapEnded                  how putting the map can end
---   PointsLaws, points-laws   addresses put as pointers, one slot after another
+--   PointsLaws, points_laws   addresses put as pointers, one slot after another
 --   OfMark, mark_pointers     one of the mark's two cells; where these alone change, the pointers stay
 --   MarkLaws, mark_laws       the mark put
 --   MapLaws, map_laws         both, one behind the other
@@ -35,7 +35,7 @@ use Rattle.counter.proofs.Offsets.{offset_first, offset_inside}
 use Rattle.counter.proofs.SoundPointers.{Inside, Sound, sound_none}
 use Rattle.counter.proofs.Gaps.{between_none}
 use Rattle.counter.proofs.MapBytes.{map_byte, pointer_same, mark_put}
-use Rattle.counter.proofs.Ready.{pointers, data_of, Ready, InMap, Own, ready_kept, byte-kept, apart_map}
+use Rattle.counter.proofs.Ready.{pointers, data_of, Ready, InMap, Own, ready_kept, byte_kept, apart_map}
 use Rattle.counter.proofs.Pointers.{of_map, PointerLaws, pointer_laws, mapped_done, mapped_either}
 use Rattle.counter.proofs.Moves.{not_done, Ended, Ended.done, Ended.roomless, Ended.unmapped}
 use Rattle.counter.proofs.Stores.{done_then, stopped_then}
@@ -58,14 +58,14 @@ pub record PointsLaws (layout : Layout) (p : Places) (addresses : List ℕ) (k :
 
 module _ (layout : Layout) (p : Places) where
   -- one pointer, and then the rest
-  points-then :
+  points_then :
       (a : ℕ) (rest : List ℕ) (k : ℕ) (s : Chip) (q : Run Work)
       → Ready layout p s
       → k + suc (length rest) ≤ slots layout
       → (put_pointer layout p k a s).answer ≡ Done
       → PointsLaws layout p rest (k + 1) (put_pointer layout p k a s).after q
       → PointsLaws layout p (a ∷ rest) k s (put_pointer layout p k a s then q)
-  points-then a rest k s q ready fits e points =
+  points_then a rest k s q ready fits e points =
       record {
         within = within_then (within_wider (λ c o. of_map ready k (omega arith) o) laws.within) points.within;
         tried = let h = laws.tried in let h' = points.tried in omega arith;
@@ -82,13 +82,13 @@ module _ (layout : Layout) (p : Places) where
       here d (suc j) l = let h : k + suc j ≡ k + 1 + j = omega arith in rw h (points.pointed d j (omega arith))
 
   -- a pointer that stops ends it
-  points-stop :
+  points_stop :
       (a : ℕ) (rest : List ℕ) (k : ℕ) (s : Chip) (x : ℕ)
       → Ready layout p s
       → k + suc (length rest) ≤ slots layout
       → (put_pointer layout p k a s).answer ≡ Stopped (MapByte x)
       → PointsLaws layout p (a ∷ rest) k s (put_pointer layout p k a s)
-  points-stop a rest k s x ready fits e =
+  points_stop a rest k s x ready fits e =
       let laws = pointer_laws ready k (omega arith) a in
       record {
         within = within_wider (λ c o. of_map ready k (omega arith) o) laws.within;
@@ -98,12 +98,12 @@ module _ (layout : Layout) (p : Places) where
         ended = failed x e;
       }
 
-  pub points-laws :
+  pub points_laws :
       (addresses : List ℕ) (k : ℕ) (s : Chip) → Ready layout p s → k + length addresses ≤ slots layout
       → PointsLaws layout p addresses k s (put_pointers addresses k layout p s)
   unfolding put_pointers
-  points-laws [] k s ready fits = record { within = within_still Done s; tried = refl; earlier = λ j l. refl; pointed = λ d j l. absurd (omega arith); ended = put refl }
-  points-laws (a ∷ rest) k s ready fits = go laws.either (points-laws rest (k + 1) (put_pointer layout p k a s).after (ready_kept ready (within_kept laws.within)) (omega arith))
+  points_laws [] k s ready fits = record { within = within_still Done s; tried = refl; earlier = λ j l. refl; pointed = λ d j l. absurd (omega arith); ended = put refl }
+  points_laws (a ∷ rest) k s ready fits = go laws.either (points_laws rest (k + 1) (put_pointer layout p k a s).after (ready_kept ready (within_kept laws.within)) (omega arith))
     where
       laws : PointerLaws layout p k a s
       laws = pointer_laws ready k (omega arith) a
@@ -112,8 +112,8 @@ module _ (layout : Layout) (p : Places) where
           ((put_pointer layout p k a s).answer ≡ Done) ⊎ ((x : ℕ) × ((put_pointer layout p k a s).answer ≡ Stopped (MapByte x)))
           → PointsLaws layout p rest (k + 1) (put_pointer layout p k a s).after (put_pointers rest (k + 1) layout p (put_pointer layout p k a s).after)
           → PointsLaws layout p (a ∷ rest) k s (put_pointer layout p k a s and_then put_pointers rest (k + 1) layout p)
-      go (inl e) points = rw (done_then (put_pointer layout p k a s) _ e) (points-then a rest k s _ ready fits e points)
-      go (inr (x, e)) points = rw (stopped_then (put_pointer layout p k a s) _ _ e) (points-stop a rest k s x ready fits e)
+      go (inl e) points = rw (done_then (put_pointer layout p k a s) _ e) (points_then a rest k s _ ready fits e points)
+      go (inr (x, e)) points = rw (stopped_then (put_pointer layout p k a s) _ _ e) (points_stop a rest k s x ready fits e)
 
 -- ## The mark
 
@@ -132,15 +132,15 @@ module _ {layout : Layout} {p : Places} {s : Chip} (ready : Ready layout p s) wh
   mark_pointers kept j l =
       let h = offset_first j in
       let h' = offset_inside layout j l in
-      pointer_same _ _ j (λ i from to. byte-kept ready kept i (omega arith) (λ o. let u = o.1 in omega arith))
+      pointer_same _ _ j (λ i from to. byte_kept ready kept i (omega arith) (λ o. let u = o.1 in omega arith))
 
   row : RowLaws mark_bytes p.map s
   row = row_laws mark_bytes p.map s ready.paired
 
-  mark-byte :
+  mark_byte :
       (put_row mark_bytes p.map s).answer ≡ Nowhere → (j : ℕ) → j < 2
       → byte_at (map_in layout p (put_row mark_bytes p.map s).after.cells) j ≡ get_or mark_bytes j 0
-  mark-byte e j l = map_byte layout p _ j (omega arith) ∙ row.held e j l
+  mark_byte e j l = map_byte layout p _ j (omega arith) ∙ row.held e j l
 
   pub mark_laws : MarkLaws layout p s
   unfolding put_mark
@@ -149,7 +149,7 @@ module _ {layout : Layout} {p : Places} {s : Chip} (ready : Ready layout p s) wh
         within = within_giving _ (within_wider (λ c i. record { from = i.0; to = let h = i.1 in omega arith }) row.within);
         tried = row.tried;
         pointed = mark_pointers row.kept;
-        marks = λ e. mark_put _ (mark-byte (mapped_done _ e) 0 (omega arith)) (mark-byte (mapped_done _ e) 1 (omega arith));
+        marks = λ e. mark_put _ (mark_byte (mapped_done _ e) 0 (omega arith)) (mark_byte (mapped_done _ e) 1 (omega arith));
         ended = ends (mapped_either (put_row mark_bytes p.map s).answer);
       }
     where
@@ -173,7 +173,7 @@ module _ {layout : Layout} {p : Places} {s : Chip} (ready : Ready layout p s) (a
   pointing = put_pointers addresses 0 layout p s
 
   points : PointsLaws layout p addresses 0 s pointing
-  points = points-laws layout p addresses 0 s ready (omega arith)
+  points = points_laws layout p addresses 0 s ready (omega arith)
 
   maps_done : pointing.answer ≡ Done → MapLaws layout p addresses s (pointing then put_mark layout p pointing.after)
   maps_done e =

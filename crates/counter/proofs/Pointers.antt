@@ -20,8 +20,8 @@ use Rattle.counter.specs.Slots.{kind_of}
 use Rattle.counter.specs.Map.{map_in, marked, offset_of, pointer_bytes}
 use Rattle.counter.specs.Store.{put_pointer, mapped}
 use Rattle.counter.proofs.Offsets.{bytes_of, bytes_length, offset_first, offset_before, offset_inside}
-use Rattle.counter.proofs.MapBytes.{map_byte, pointer_same, pointer-put}
-use Rattle.counter.proofs.Ready.{pointers, Ready, InMap, byte-kept, mark_kept, apart_map}
+use Rattle.counter.proofs.MapBytes.{map_byte, pointer_same, pointer_put}
+use Rattle.counter.proofs.Ready.{pointers, Ready, InMap, byte_kept, mark_kept, apart_map}
 
 pub record OfPointer (p : Places) (k a : ℕ) : Type 0 where
   pub from : p.map + offset_of k ≤ a
@@ -84,7 +84,7 @@ module _ {layout : Layout} {p : Places} {s : Chip} (ready : Ready layout p s) (k
     put_held e =
         let h = offset_inside layout k l in
         let size = bytes_length (kind_of k) a in
-        pointer-put _ k a
+        pointer_put _ k a
         (λ i m.
         map_byte layout p _ (offset_of k + i) (omega arith)
         ∙ ap (cell_at (put_row (pointer_bytes (kind_of k) a) (p.map + offset_of k) s).after) (sym (add_assoc p.map (offset_of k) i))
@@ -94,7 +94,7 @@ module _ {layout : Layout} {p : Places} {s : Chip} (ready : Ready layout p s) (k
     put_others : (j : ℕ) → j < slots layout → (j ≡ k → ⊥) → pointers layout p (put_pointer layout p k a s).after j ≡ pointers layout p s j
     put_others j m d =
         let h = offset_inside layout j m in
-        pointer_same _ _ j (λ i from to. byte-kept ready (within_kept put_in) i (omega arith) (apart j i d from to))
+        pointer_same _ _ j (λ i from to. byte_kept ready (within_kept put_in) i (omega arith) (apart j i d from to))
 
     put_mark_lem : marked (map_in layout p (put_pointer layout p k a s).after.cells) ≡ marked (map_in layout p s.cells)
     put_mark_lem = mark_kept ready (within_kept put_in) (λ j m o. let h = offset_first k in let h' = o.from in omega arith)

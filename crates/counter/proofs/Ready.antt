@@ -4,7 +4,7 @@
 --   ready_placed              the settings as facts
 --   ready_kept                it stays so
 --   InMap, Own                the cells of the map; those of map or area
---   byte-kept, mark_kept      a map byte stays where its cell does, and the mark where its two do
+--   byte_kept, mark_kept      a map byte stays where its cell does, and the mark where its two do
 --   map_kept                  the map stays where only area cells change
 --   inside_cell               a cell of the area is a cell of the image
 --   apart_map                 and none of the map
@@ -70,13 +70,13 @@ module _ {layout : Layout} {p : Places} {s : Chip} (ready : Ready layout p s) wh
           good = rw kept.cells_length ready.good;
         }
 
-    pub byte-kept :
+    pub byte_kept :
         (j : ℕ) → j < map_cells layout → (Place (p.map + j) → ⊥)
         → byte_at (map_in layout p t.cells) j ≡ byte_at (map_in layout p s.cells) j
-    byte-kept j l n = map_byte layout p t.cells j l ∙ kept.cell (p.map + j) n ∙ sym (map_byte layout p s.cells j l)
+    byte_kept j l n = map_byte layout p t.cells j l ∙ kept.cell (p.map + j) n ∙ sym (map_byte layout p s.cells j l)
 
     pub mark_kept : ((j : ℕ) → j < 2 → Place (p.map + j) → ⊥) → marked (map_in layout p t.cells) ≡ marked (map_in layout p s.cells)
-    mark_kept apart = mark_same _ _ (byte-kept 0 (omega arith) (apart 0 (omega arith))) (byte-kept 1 (omega arith) (apart 1 (omega arith)))
+    mark_kept apart = mark_same _ _ (byte_kept 0 (omega arith) (apart 0 (omega arith))) (byte_kept 1 (omega arith) (apart 1 (omega arith)))
 
   pub map_kept : {t : Chip} → Kept (Inside p) s t → map_in layout p t.cells ≡ map_in layout p s.cells
   map_kept {t} kept =

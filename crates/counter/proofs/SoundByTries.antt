@@ -1,9 +1,9 @@
 -- Sound pointers are those that could be tried one after another, and differ.
 --   tries_sound               such pointers are sound
---   ordered-tries             pointers in the area and in order could be tried one after another
+--   ordered_tries             pointers in the area and in order could be tried one after another
 --   sound_tries, sound_apart  sound ones are such
 --   border_tries              pointers on the right sides of a border could be tried one after another
---   spread-sound              pointers in order are sound where those of each kind differ
+--   spread_sound              pointers in order are sound where those of each kind differ
 --   sound_differ              of pointers that could be tried, soundness is that they differ
 use Rattle.std.proofs.Common.{◌≡◌, ℕ, suc, ◌+◌, ◌-◌, ◌%◌, ◌<◌, ◌≤◌, Bool, true, false, not, eqb, sym, refl, ap, ◌∙◌, true≢false, arith, ne_eqb}
 use native.Mathlib.Decide.{dec_lt}
@@ -62,11 +62,11 @@ module _ (layout : Layout) (p : Places) (pointer : ℕ → ℕ) where
           order = λ i j l m high low. ordered i j l m high low (dec_lt i j);
         })
 
-  pub ordered-tries :
+  pub ordered_tries :
       ((k : ℕ) → k < slots layout → Inside p (pointer k)) → ((k : ℕ) → k < slots layout → kind_of k ≡ High → pointer k ≤ 255)
       → ((i j : ℕ) → i < slots layout → j < slots layout → kind_of i ≡ High → kind_of j ≡ Low → pointer i < pointer j)
       → every (slots layout) follows ≡ true
-  ordered-tries inside reach order = all_every _ follows (λ k l. facts_tried p (kind_of k) (gap_to k p pointer) (pointer k) (tried k l))
+  ordered_tries inside reach order = all_every _ follows (λ k l. facts_tried p (kind_of k) (gap_to k p pointer) (pointer k) (tried k l))
     where
       tried : (k : ℕ) → k < slots layout → Tried p (kind_of k) (gap_to k p pointer) (pointer k)
       tried k l =
@@ -85,7 +85,7 @@ module _ (layout : Layout) (p : Places) (pointer : ℕ → ℕ) where
     facts = test_sound layout p pointer test
 
     pub sound_tries : every (slots layout) follows ≡ true
-    sound_tries = ordered-tries facts.inside facts.reach facts.order
+    sound_tries = ordered_tries facts.inside facts.reach facts.order
 
     pub sound_apart : every (slots layout) new ≡ true
     sound_apart =
@@ -156,15 +156,15 @@ module _ (p : Places) (pointer : ℕ → ℕ) (x : ℕ)
 
   pub border_tries : every 16 (follows two p pointer) ≡ true
   border_tries =
-      ordered-tries two p pointer inside_at
+      ordered_tries two p pointer inside_at
       (λ k l high. let f = (high_at k l (is_high k high)).2 in omega arith)
       (λ i j l m high low. let f = (high_at i l (is_high i high)).1 in let g = (low_at j m (is_low j low)).0 in omega arith)
 
 -- pointers in order differ where those of each kind do
-pub spread-sound :
+pub spread_sound :
     (p : Places) (pointer : ℕ → ℕ) → every 16 (follows two p pointer) ≡ true → Differ (Among 0 3) pointer → Differ (Among 3 8) pointer
     → sound two p pointer ≡ true
-spread-sound p pointer tries lows highs =
+spread_sound p pointer tries lows highs =
     tries_sound two p pointer tries
     (all_every 16 _ (λ j m. all_every j _ (λ i l. ap not (ne_eqb _ _ (differ i j l m (dec_lt (i % 8) 3) (dec_lt (j % 8) 3))))))
   where

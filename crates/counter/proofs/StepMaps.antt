@@ -18,8 +18,8 @@ use Rattle.counter.specs.Doors.{last_count, chip_verdict, step_run, step_of}
 use Rattle.counter.proofs.SoundPointers.{Sound}
 use Rattle.counter.proofs.Ready.{pointers, Ready, ready_kept}
 use Rattle.counter.proofs.Moves.{Ended, Ended.done, Ended.roomless, Ended.unmapped}
-use Rattle.counter.proofs.Stores.{StoreLaws, store-laws, done_then, stopped_then}
-use Rattle.counter.proofs.GoodVerdicts.{verdict-good}
+use Rattle.counter.proofs.Stores.{StoreLaws, store_laws, done_then, stopped_then}
+use Rattle.counter.proofs.GoodVerdicts.{verdict_good}
 use Rattle.counter.proofs.DoorViews.{step_refused, step_last, step_on}
 use Rattle.counter.proofs.DoorAnswers.{step_is, storing_tried}
 
@@ -40,23 +40,23 @@ record Trying (layout : Layout) (p : Places) (s : Chip) (r : Run Work) : Type 0 
   unmoved : r.tried ≡ 0 → Unmoved layout p s r.after
 
 -- one count stored and then another
-twice-trying :
+twice_trying :
     {layout : Layout} {p : Places} (c d : ℕ) (s : Chip) → Ready layout p s → Sound (slots layout) p (pointers layout p s)
     → Trying layout p s (store layout p c s and_then store layout p d)
-twice-trying {layout} {p} c d s ready sound = go laws.ended
+twice_trying {layout} {p} c d s ready sound = go laws.ended
   where
     r : Run Work
     r = store layout p c s
 
     laws : StoreLaws layout p (slots layout) 0 c s r
-    laws = store-laws layout p c s ready sound
+    laws = store_laws layout p c s ready sound
 
     one : Trying layout p s r
     one = record { ended = laws.ended; unmoved = stored_unmoved laws }
 
     go : Ended r.answer → Trying layout p s (r and_then store layout p d)
     go (done e) =
-        let next = store-laws layout p d r.after (ready_kept ready (within_kept laws.within)) (laws.stored e).sound in
+        let next = store_laws layout p d r.after (ready_kept ready (within_kept laws.within)) (laws.stored e).sound in
         rw (done_then r (store layout p d) e)
         (record { ended = next.ended; unmoved = λ none. unmoved_then (stored_unmoved laws (omega arith)) (stored_unmoved next (omega arith)) })
     go (roomless k e) = rw (stopped_then r (store layout p d) _ e) one
@@ -76,8 +76,8 @@ module _ (layout : Layout) (p : Places) (s : Chip) where
       counted : (c : ℕ) (lag : ℤ) → chip_verdict layout p s ≡ Good c lag → Dec (c ≡ last_count) → Leaves (step_run layout p s)
       counted c lag e (yes l) = refused_leaves (step_last layout p s c lag e l)
       counted c lag e (no n) =
-          let good = (verdict-good layout p s e).1 in
-          let twice = twice-trying c (c + 1) s good.ready good.sound in
+          let good = (verdict_good layout p s e).1 in
+          let twice = twice_trying c (c + 1) s good.ready good.sound in
           rw (step_on layout p s c lag e n) (λ none. twice.unmoved (sym (storing_tried (c + 1) lag (store layout p c s and_then store layout p (c + 1)) twice.ended) ∙ none))
 
       go : (v : Verdict) → chip_verdict layout p s ≡ v → Leaves (step_run layout p s)

@@ -31,7 +31,7 @@ use Rattle.counter.proofs.Ready.{pointers, data_of, Ready, ready_placed, ready_k
 use Rattle.counter.proofs.Fitted.{fitted_ready, ready_fitted, ready_short}
 use Rattle.counter.proofs.Tries.{room, spares_room}
 use Rattle.counter.proofs.Moves.{SlotLaws, change, gap_at, tries, first, move_missing, move_landing, slot_held, slot_failed, slot_laws, Ended, Ended.done, Ended.roomless, Ended.unmapped}
-use Rattle.counter.proofs.Stores.{done_then, stopped_then, store-laws}
+use Rattle.counter.proofs.Stores.{done_then, stopped_then, store_laws}
 
 -- at most so many writes, and so many tries
 pub record Costs {A : Type 0} (writes tried : ℕ) (r : Run A) : Type 0 where
@@ -143,7 +143,7 @@ twice_few layout p c d s good well = go (store layout p c s).answer refl
 
     go : (w : Work) → (store layout p c s).answer ≡ w → length (store layout p c s and_then store layout p d).log ≤ 8198 * slots layout
     go Done h =
-        let laws = store-laws layout p c s (fitted_ready good) (test_sound layout p _ well) in
+        let laws = store_laws layout p c s (fitted_ready good) (test_sound layout p _ well) in
         let fit = ready_fitted (ready_kept (fitted_ready good) (within_kept laws.within)) in
         let more = store_cost layout p d (store layout p c s).after fit (sound_test layout p _ (laws.stored h).sound) in
         rw (done_then (store layout p c s) (store layout p d) h, length-append) (omega (arith, few, more))

@@ -1,12 +1,12 @@
 -- What is said of storing, one law a turn, over what functions have said of its pieces, `v` and `u`.
---   mapped-works              a row of map bytes was put
+--   mapped_works              a row of map bytes was put
 --   low_pointer, high_pointer the bytes of a pointer were put, by its slot's kind
 --   GapFits, gap_fits         the gap that a fitting chip's pointers leave
 --   SpareHeld, spare_held     what a spare that holds leaves for the pointer
 --   move_lost, move_nowhere, move_at  a byte was moved, by what was found
 --   slot_put, slot_moved      a byte was put at its slot's cell, or moved
 --   slot_lost, slot_done, slot_moves  the same on mains that can be lost
---   slot-still                a put that fails leaves the chip as it was, fit for the move
+--   slot_still                a put that fails leaves the chip as it was, fit for the move
 --   slot_settled, store_settled  work that is done leaves a fitting chip with a sound map
 --   slot_next                 and the pointer of another slot where it was
 --   store_left, store_left_all, store_left_none, store_left_done, store_left_stopped  what is left of a store
@@ -38,23 +38,23 @@ use Rattle.counter.specs.Verdict.{◌and_then◌}
 use Rattle.counter.specs.Store.{mapped, put_pointer, try_spares, move_slot, slot_code, store_slot, store_from, store}
 use Rattle.counter.proofs.Offsets.{kind_low, kind_high}
 use Rattle.counter.proofs.SoundPointers.{Sound, test_sound, sound_test, reach_test}
-use Rattle.counter.proofs.Gaps.{between_map, between-ordered, free_spare}
+use Rattle.counter.proofs.Gaps.{between_map, between_ordered, free_spare}
 use Rattle.counter.proofs.Ready.{pointers, Ready, Own, ready_placed, ready_kept, start_fits}
 use Rattle.counter.proofs.Fitted.{fitted_ready, ready_fitted, ready_short}
 use Rattle.counter.proofs.Tries.{Trying, Trying.missing, Trying.landing, TryLaws, try_laws}
 use Rattle.counter.proofs.Moves.{gap_at, tries, first, move_missing, move_landing, slot_held, slot_failed, slot_laws}
 use Rattle.counter.specs.Inside.{fitted, stopped, loss_of, told, Mapped}
-use Rattle.counter.proofs.Stores.{store-laws}
+use Rattle.counter.proofs.Stores.{store_laws}
 use Rattle.counter.proofs.Behind.{stopped_not, works_stopped, works_done}
 
 -- ## A row of map bytes, and an address put as a slot's pointer
 
 -- a row of map bytes, as a piece of storing
-pub mapped-works :
+pub mapped_works :
     {n b : ℕ} {r : Run Found} {s : Chip} {row : RowPut} {stored : Stored} {t : Chip}
     → Says row.lost (seen row.failed row.writes 0 t) n b r s → Mapped row stored
     → Says (loss_of stored.work) (told stored t) n b (r giving mapped r.answer) s
-mapped-works {n} {b} {r} {s} {row} {stored} {t} e said = go row.lost refl
+mapped_works {n} {b} {r} {s} {row} {stored} {t} e said = go row.lost refl
   where
     whole : (f : Found) → loss_of (mapped f) ≡ Nowhere
     whole (At a) = unfold mapped in refl
@@ -74,12 +74,12 @@ module _ (layout : Layout) (p : Places) (k a at : ℕ) {n x : ℕ} {s t : Chip} 
   pub low_pointer : k % 8 < 3 → Says row.lost (seen row.failed row.writes 0 t) n x (put_row (a % 256 ∷ a / 256 ∷ []) (p.map + at) s) s
       → Says (loss_of done.work) (told done t) n x (put_pointer layout p k a s) s
   unfolding put_pointer pointer_bytes
-  low_pointer h e = rw (kind_low k h, ← here) (mapped-works e m)
+  low_pointer h e = rw (kind_low k h, ← here) (mapped_works e m)
 
   pub high_pointer : 3 ≤ k % 8 → a ≤ 255 → Says row.lost (seen row.failed row.writes 0 t) n x (put_row (a % 256 ∷ []) (p.map + at) s) s
       → Says (loss_of done.work) (told done t) n x (put_pointer layout p k a s) s
   unfolding put_pointer pointer_bytes
-  high_pointer h small e = let same : a % 256 ≡ a = omega arith in rw (kind_high k h, ← here, ← same) (mapped-works e m)
+  high_pointer h small e = let same : a % 256 ≡ a = omega arith in rw (kind_high k h, ← here, ← same) (mapped_works e m)
 
 -- ## The gap that a fitting chip's pointers leave
 
@@ -98,7 +98,7 @@ gap_fits {layout} {p} {s} ready sound =
     record {
       first = omega arith;
       reach = gap.least 256 (omega arith) (λ k l e. let h = sound.reach k l e in omega arith);
-      ordered = between-ordered (start_fits ready) sound gap;
+      ordered = between_ordered (start_fits ready) sound gap;
       inside = omega arith;
     }
 
@@ -158,10 +158,10 @@ module _ (layout : Layout) (p : Places) (k b : ℕ) (s : Chip) {at : ℕ} (here 
       ∙ rw (ap (λ (w : Seen Bool). w.tried) first_said, put_tried)
 
   -- a put that fails leaves the chip as it was, fit for the move
-  pub slot-still :
+  pub slot_still :
       fitted layout p s ≡ true → sound layout p (pointers layout p s) ≡ true → v.answer ≡ false
       → (fitted layout p v.after ≡ true) × (sound layout p (pointers layout p v.after) ≡ true)
-  slot-still good well h =
+  slot_still good well h =
       let r = first layout p k b s in
       let same = ap (λ (q : Run Bool). q.after) ((put_laws (pointers layout p s k) b s (fitted_ready good).paired).unchanged (said_answer r first_said h)) in
       rw (said_after r first_said ∙ same) (good, well)
@@ -232,7 +232,7 @@ module _ (layout : Layout) (p : Places) (s : Chip) {v : Seen Work} (good : fitte
 
   pub store_settled : (c : ℕ) → v ≡ view (store layout p c s) → stopped v.answer ≡ false → (fitted layout p v.after ≡ true) × (sound layout p (pointers layout p v.after) ≡ true)
   store_settled c e h =
-      let laws = store-laws layout p c s (fitted_ready good) (test_sound layout p _ well) in
+      let laws = store_laws layout p c s (fitted_ready good) (test_sound layout p _ well) in
       settled layout p s _ (fitted_ready good) laws.within (laws.stored (said_answer (store layout p c s) e (stopped_not v.answer h))).sound e
 
 -- what is left of a store when the slots below k hold their codes

@@ -3,7 +3,7 @@
 --   changes, changes_same     how many slots hold another byte than they are to hold
 --   AllHeld                   what such a store comes to where it is done
 --   StoreLaws                 the laws of storing the n slots from k on
---   from-laws, store-laws     they hold of storing so
+--   from_laws, store_laws     they hold of storing so
 use Rattle.std.proofs.Common.{◌≡◌, ℕ, zero, suc, ◌+◌, ◌<◌, ◌≤◌, ◌++◌, sym, refl, ap, ◌∙◌, ap₂, arith}
 use native.Mathlib.Decide.{ℕ_discrete}
 use Rattle.cells.specs.Chip.{Chip}
@@ -75,12 +75,12 @@ module _ (layout : Layout) (p : Places) (c : ℕ) where
       }
 
   -- a slot that stops ends the storing
-  stopped-laws :
+  stopped_laws :
       (n k : ℕ) (s : Chip) (r : Run Work) (why : Refusal) → r.answer ≡ Stopped why
       → SlotLaws layout p k (slot_code c k) (change (data_of layout p s k) (slot_code c k)) s r
       → StoreLaws layout p (suc n) k c s r
   unfolding changes
-  stopped-laws n k s r why e m =
+  stopped_laws n k s r why e m =
       record {
         within = m.within;
         mark = m.mark;
@@ -91,12 +91,12 @@ module _ (layout : Layout) (p : Places) (c : ℕ) where
       }
 
   -- a slot that is done, and then the rest
-  done-laws :
+  done_laws :
       (n k : ℕ) (s : Chip) (r q : Run Work) → k + suc n ≤ slots layout
       → SlotLaws layout p k (slot_code c k) (change (data_of layout p s k) (slot_code c k)) s r → r.answer ≡ Done
       → StoreLaws layout p n (k + 1) c r.after q → StoreLaws layout p (suc n) k c s (r then q)
   unfolding changes
-  done-laws n k s r q fits m e rest =
+  done_laws n k s r q fits m e rest =
       record {
         within = within_then m.within rest.within;
         mark = rest.mark ∙ m.mark;
@@ -128,12 +128,12 @@ module _ (layout : Layout) (p : Places) (c : ℕ) where
           here j l u (yes e) = rw e (x.kept k (omega arith) ∙ t.held)
           here j l u (no d) = x.held j (omega arith) (omega arith)
 
-  pub from-laws :
+  pub from_laws :
       (n k : ℕ) (s : Chip) → k + n ≤ slots layout → Ready layout p s
       → Sound (slots layout) p (pointers layout p s) → StoreLaws layout p n k c s (store_from n k layout p c s)
   unfolding store_from
-  from-laws zero k s fits ready sound = none_laws k s sound
-  from-laws (suc n) k s fits ready sound = go slot.ended (λ e. from-laws n (k + 1) r.after (omega arith) (ready_kept ready (within_kept slot.within)) (slot.settles e).sound)
+  from_laws zero k s fits ready sound = none_laws k s sound
+  from_laws (suc n) k s fits ready sound = go slot.ended (λ e. from_laws n (k + 1) r.after (omega arith) (ready_kept ready (within_kept slot.within)) (slot.settles e).sound)
     where
       r : Run Work
       r = store_slot layout p k (slot_code c k) s
@@ -145,12 +145,12 @@ module _ (layout : Layout) (p : Places) (c : ℕ) where
           Ended r.answer
           → (r.answer ≡ Done → StoreLaws layout p n (k + 1) c r.after (store_from n (k + 1) layout p c r.after))
           → StoreLaws layout p (suc n) k c s (r and_then store_from n (k + 1) layout p c)
-      go (done e) rest = rw (done_then r _ e) (done-laws n k s r _ fits slot e (rest e))
-      go (roomless j e) rest = rw (stopped_then r _ _ e) (stopped-laws n k s r _ e slot)
-      go (unmapped a e) rest = rw (stopped_then r _ _ e) (stopped-laws n k s r _ e slot)
+      go (done e) rest = rw (done_then r _ e) (done_laws n k s r _ fits slot e (rest e))
+      go (roomless j e) rest = rw (stopped_then r _ _ e) (stopped_laws n k s r _ e slot)
+      go (unmapped a e) rest = rw (stopped_then r _ _ e) (stopped_laws n k s r _ e slot)
 
-  pub store-laws :
+  pub store_laws :
       (s : Chip) → Ready layout p s → Sound (slots layout) p (pointers layout p s)
       → StoreLaws layout p (slots layout) 0 c s (store layout p c s)
   unfolding store
-  store-laws s ready sound = from-laws (slots layout) 0 s (omega arith) ready sound
+  store_laws s ready sound = from_laws (slots layout) 0 s (omega arith) ready sound

@@ -100,11 +100,11 @@ module _ (n k : ℕ) (g : Gap) (s : Chip) where
     more_held zero l = after.cell m.place (narrow_other (kind_of k) g m.place) ∙ m.held
     more_held (suc j) l = t.held j (omega arith)
 
-    more-sound :
+    more_sound :
         (p : Places) (pointer : ℕ → ℕ)
         → ((j : ℕ) → j < suc n → pointer (k + j) ≡ get_or (m.place ∷ (rest m.place).answer.addresses) j 0)
         → Between k p pointer g → Sound k p pointer → Sound (k + suc n) p pointer
-    more-sound p pointer at between sound =
+    more_sound p pointer at between sound =
         let here : pointer k ≡ m.place = rw add-zero at (at 0 (omega arith)) in
         let sum : k + 1 + n ≡ k + suc n = omega arith in
         rw sum at
@@ -119,14 +119,14 @@ module _ (n k : ℕ) (g : Gap) (s : Chip) where
           many = ap suc t.many;
           inside = more_inside;
           held = more_held;
-          sound = more-sound;
+          sound = more_sound;
         }
 
-  landing-takes :
+  landing_takes :
       Paired s → (m : Landing k g (code_of 0) s)
       → TakeLaws n (k + 1) (narrow (kind_of k) m.place g) spares.after (rest m.place)
       → TakeLaws (suc n) k g s (one_more m.place)
-  landing-takes paired m t =
+  landing_takes paired m t =
       record {
         within = within_then (spares_within paired) (within_giving _ (within_wider (λ c i. narrow_inside (kind_of k) g m.place c m.free i) t.within));
         all = λ e. more_taken m (t.all e) (within_kept t.within);
@@ -148,4 +148,4 @@ take_laws (suc n) k g s paired = go (try_laws k g (code_of 0) s paired).trying (
         → ((m : Landing k g (code_of 0) s) → TakeLaws n (k + 1) (narrow (kind_of k) m.place g) (try_spares k g (code_of 0) s).after (rest n k g s m.place))
         → TakeLaws (suc n) k g s (take_from (suc n) k g s)
     go (missing m) later = rw (take_missing n k g s m.nowhere) (missing_takes n k g s paired)
-    go (landing m) later = rw (take_landing n k g s m.place m.here) (landing-takes n k g s paired m (later m))
+    go (landing m) later = rw (take_landing n k g s m.place m.here) (landing_takes n k g s paired m (later m))

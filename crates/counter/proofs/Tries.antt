@@ -5,7 +5,7 @@
 --   Missing                   no spare holds: each was asked and refuses, and the chip is as it was
 --   Landing                   a spare holds: the chip is that one put from the start
 --   Trying, TryLaws, try_laws
---   try-nowhere               no spare holds exactly where each refuses
+--   try_nowhere               no spare holds exactly where each refuses
 use Rattle.std.proofs.Common.{◌≡◌, ℕ, ◌+◌, ◌-◌, ◌<◌, ◌≤◌, ◌↔◌, List, length, sym, ap, ◌∙◌, true≢false, arith, length-append, ne_eqb}
 use Rattle.cells.specs.declared.row.Found.{Found}
 use Rattle.cells.specs.declared.row.Found.TheVariants.{At, Nowhere}
@@ -117,10 +117,10 @@ module _ (k : ℕ) (g : Gap) (b : ℕ) (s : Chip) (paired : Paired s) where
       go (hit m) = landing (landed m)
 
 -- no spare holds exactly where each refuses
-pub try-nowhere :
+pub try_nowhere :
     (k : ℕ) (g : Gap) (b : ℕ) (s : Chip) → Paired s
     → ((try_spares k g b s).answer ≡ Nowhere) ↔ ((a : ℕ) → Free (kind_of k) g a → Refuses a b s)
-try-nowhere k g b s paired = go (try_laws k g b s paired).trying
+try_nowhere k g b s paired = go (try_laws k g b s paired).trying
   where
     go : Trying k g b s → ((try_spares k g b s).answer ≡ Nowhere) ↔ ((a : ℕ) → Free (kind_of k) g a → Refuses a b s)
     go (missing m) = (λ e. m.refused, λ f. m.nowhere)

@@ -49,7 +49,7 @@ unfoldable pub next_of : Kind → Gap → ℕ
 next_of High g = g.high
 next_of Low g = g.low - 1
 
--- how many cells may be tried from the next address on: just those of which `may_try` holds (`spares-tried`, proofs/Gaps.antt)
+-- how many cells may be tried from the next address on: just those of which `may_try` holds (`spares_tried`, proofs/Gaps.antt)
 unfoldable pub spares_of : Kind → Gap → ℕ
 spares_of High g = min 256 g.low - g.high
 spares_of Low g = g.low - g.high

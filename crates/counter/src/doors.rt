@@ -24,14 +24,14 @@ use super::verdict::{Answer, Refusal, Verdict, Work, answer_of, refusal_of};
 use cells::mains::Mains;
 
 // What read answers: beside the answer, how many of the sixteen data cells were mended in each of the bits 0 to 7.
-#[derive(Drop)]
+#[derive(Clone, Copy)]
 pub struct ReadAnswer {
     pub answer: Answer,
     pub bits: [u32; 8],
 }
 
 // Which part of an image map part hands back, and its code.
-#[derive(Drop)]
+#[derive(Clone, Copy)]
 pub struct Part {
     pub code: u32,
     pub start: usize,

@@ -12,7 +12,7 @@ use super::spares::gap_of;
 use super::standing::{Standing, standing_of};
 
 // The highest High pointer and the lowest Low one; both are 0 where there is no map that can be used.
-#[derive(Drop)]
+#[derive(Clone, Copy)]
 pub struct Ends {
     pub highest: usize,
     pub lowest: usize,

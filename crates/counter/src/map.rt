@@ -8,14 +8,14 @@ use super::layout::Layout;
 use code::table::wide;
 
 // High cells hold nibbles 3 to 7, Low cells nibbles 0 to 2.
-#[derive(Drop)]
+#[derive(Clone, Copy)]
 pub enum Kind {
     High,
     Low,
 }
 
 // A map, by its place in the image.
-#[derive(Drop)]
+#[derive(Clone, Copy)]
 pub struct Map {
     pub place: usize,
 }

@@ -18,7 +18,7 @@ use code::codes::code_of;
 
 // Where the power was lost, if it was; else the bytes that hold the addresses taken as pointers, for how many slots they are, and
 // the writes asked for.
-#[derive(Drop)]
+#[derive(Clone, Copy)]
 struct Takings {
     lost: Found,
     bytes: [u8; 33],

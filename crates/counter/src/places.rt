@@ -6,7 +6,7 @@ ghost use Rattle.counter.specs.Places.{length_good, places_good};
 use super::map::Map;
 
 // Where the map starts, and the area's first and last cell.
-#[derive(Drop)]
+#[derive(Clone, Copy)]
 pub struct Places {
     pub map: usize,
     pub start: usize,

@@ -47,7 +47,7 @@ pub(crate) fn data_of(image: &[u8], map: &[u8]) -> [u8; 16]
 }
 
 // What can be amiss with a nibble: a byte one bit from two codes in some copy, or lost in every copy.
-#[derive(Drop)]
+#[derive(Clone, Copy)]
 pub enum Fault {
     Twofold,
     LostInAll,
@@ -152,7 +152,7 @@ fn weighed(data: &[u8; 16]) -> Verdict
 }
 
 // The Gray word of bytes that are codes, the same in both copies; and whether they are.
-#[derive(Drop)]
+#[derive(Clone, Copy)]
 pub struct Plain {
     pub clean: bool,
     pub word: u32,
@@ -187,7 +187,7 @@ fn plain_word(image: &[u8], map: &[u8]) -> Plain
 }
 
 // What was read, and whether all slots are known to hold the count's codes.
-#[derive(Drop)]
+#[derive(Clone, Copy)]
 pub struct Finding {
     pub verdict: Verdict,
     pub exact: bool,

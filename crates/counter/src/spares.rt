@@ -11,7 +11,7 @@ use super::places::Places;
 use cells::row::Way;
 
 // The next High address, and the lowest Low pointer: the cell past the area's end before any is taken.
-#[derive(Drop)]
+#[derive(Clone, Copy)]
 pub struct Gap {
     pub high: usize,
     pub low: usize,

@@ -9,7 +9,7 @@ use super::places::{Places, length_good, places_good};
 use super::verdict::Refusal;
 
 // Refused for its length or the settings, without a mark, or marked.
-#[derive(Drop)]
+#[derive(Clone, Copy)]
 pub enum Standing {
     Unfit(Refusal),
     Unmarked,

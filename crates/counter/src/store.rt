@@ -28,7 +28,7 @@ use code::nibbles::nibble_of;
 use std::num::wrapping_add_usize;
 
 // What a piece of storing came to: how it ended, the writes asked for, and the spares tried.
-#[derive(Drop)]
+#[derive(Clone, Copy)]
 pub struct Stored {
     pub work: Work,
     pub writes: usize,
@@ -369,7 +369,7 @@ pub(crate) fn settle(
 }
 
 // The cells of a nibble, in copy 1 and in copy 2.
-#[derive(Drop)]
+#[derive(Clone, Copy)]
 struct Pair {
     one: usize,
     other: usize,

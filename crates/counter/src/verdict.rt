@@ -4,7 +4,7 @@ ghost use Rattle.std.specs.Prelude.{◌≡◌};
 ghost use Rattle.counter.specs.Verdict.{refused, refusal_of, answer_of};
 
 // Why a call is refused.
-#[derive(Drop)]
+#[derive(Clone, Copy)]
 pub enum Refusal {
     BadLength,
     BadPlaces,
@@ -27,21 +27,21 @@ pub enum Refusal {
 }
 
 // How a call ended: with a count and the lag that was read, or refused.
-#[derive(Drop)]
+#[derive(Clone, Copy)]
 pub enum Verdict {
     Good(u32, i64),
     Refused(Refusal),
 }
 
 // How a piece of storing ended.
-#[derive(Drop)]
+#[derive(Clone, Copy)]
 pub enum Work {
     Done,
     Stopped(Refusal),
 }
 
 // What comes back from a door.
-#[derive(Drop)]
+#[derive(Clone, Copy)]
 pub struct Answer {
     pub code: u32,
     pub count: u32,

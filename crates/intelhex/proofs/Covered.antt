@@ -1,5 +1,5 @@
 -- A text that is read covers every address once, and the image holds the bytes of its records.
-use Rattle.std.proofs.Common.{◌≡◌, ℕ, zero, suc, ◌+◌, ◌-◌, ◌<◌, ◌≤◌, Bool, true, false, cond, ◌&&◌, ltb, leb, List, [], ◌∷◌, ◌++◌, length, get_or, take, drop, set, replicate, sym, refl, ap, ◌∙◌, true≢false, arith, length-append, length-drop, length-take, length-take-le, get_or-drop, get_or-set_other, get_or-take, get_or-append-add, ltb-false, ltb-true, le-ltb, lt-ltb, le-leb, leb-true}
+use Rattle.std.proofs.Common.{◌≡◌, ℕ, zero, suc, ◌+◌, ◌-◌, ◌<◌, ◌≤◌, true, false, cond, ltb, leb, List, [], ◌∷◌, ◌++◌, length, get_or, take, drop, replicate, sym, refl, ap, ◌∙◌, true≢false, arith, length-append, length-drop, length-take, length-take-le, get_or-drop, get_or-take, get_or-append-add, ltb-false, ltb-true, le-ltb, lt-ltb, le-leb, leb-true}
 use native.Mathlib.Decide.{dec_le}
 use lib.ListN.{get_or-append, get_or-eq_default, get_or-replicate}
 use lib.ListN.{length-replicate}

@@ -1,5 +1,5 @@
 -- The records of a text that is read may stand in any order.
-use Rattle.std.proofs.Common.{◌≡◌, ℕ, suc, ◌+◌, ◌<◌, true, false, List, [], ◌∷◌, ◌++◌, length, get_or, sym, refl, ap, ◌∙◌, arith, length-append, ext_get_or}
+use Rattle.std.proofs.Common.{◌≡◌, ℕ, suc, ◌<◌, true, false, List, [], ◌∷◌, ◌++◌, length, get_or, sym, refl, ap, ◌∙◌, arith, length-append, ext_get_or}
 use lib.ListN.{get_or-append}
 use Rattle.intelhex.specs.declared.Answer.{Answer}
 use Rattle.intelhex.specs.Lines.{Line, line, lines_of}

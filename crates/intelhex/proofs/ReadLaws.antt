@@ -1,5 +1,5 @@
 -- What is known of a line with no fault, and of a text that is read: no line has a fault, and in the end every address has its byte.
-use Rattle.std.proofs.Common.{◌≡◌, ℕ, zero, suc, ◌+◌, ◌*◌, ◌%◌, ◌<◌, ◌≤◌, Bool, true, false, cond, not, ◌&&◌, ◌||◌, eqb, ltb, leb, List, [], ◌∷◌, length, get_or, take, drop, refl, ap, ◌∙◌, true≢false, add-one, arith, ltb-false, ltb-true, eqb-true, leb-true}
+use Rattle.std.proofs.Common.{◌≡◌, ℕ, zero, suc, ◌+◌, ◌*◌, ◌%◌, ◌<◌, ◌≤◌, Bool, true, false, cond, not, ◌&&◌, ◌||◌, eqb, ltb, List, [], ◌∷◌, length, get_or, take, drop, refl, ◌∙◌, true≢false, add-one, arith, ltb-false, ltb-true, eqb-true}
 use borrow.Author.Tests.{eqb-false, not-false}
 use lib.ListN.{length-replicate}
 use lib.Seq.{length-sets}
@@ -11,7 +11,6 @@ use Rattle.intelhex.specs.Faults.{Memory, not_yet, some_taken, all_taken, fault_
 use Rattle.intelhex.specs.Doors.{sized, at_end, read_lines, blank, read_of}
 use Rattle.intelhex.proofs.LineLaws.{choose, both}
 use Rattle.intelhex.proofs.Standard.{sized_bounds}
-use Rattle.intelhex.proofs.Bytes.{length_bytes}
 use Rattle.intelhex.proofs.RecordLaws.{Bytes, bytes_cons}
 
 -- ---- a line with no fault

@@ -62,7 +62,10 @@ bytes_back (byte ∷ bytes) all =
     let small : byte < 256 = all 0 (omega arith) in
     let first : byte_at (in_digits (byte ∷ bytes)) 0 ≡ byte =
     rw (value_digit (byte / 16) (omega arith), value_digit (byte % 16) (omega arith)) (omega arith) in
-    let more = bytes_later _ _ 1 (length bytes) ∙ bytes_later _ _ 0 (length bytes) ∙ bytes_back bytes (bytes_rest byte bytes all) in
+    let more =
+    bytes_later (digit (byte / 16)) (digit (byte % 16) ∷ in_digits bytes) 1 (length bytes)
+    ∙ bytes_later (digit (byte % 16)) (in_digits bytes) 0 (length bytes)
+    ∙ bytes_back bytes (bytes_rest byte bytes all) in
     λ t. first t ∷ more t
 
 -- and they are digits

@@ -1,5 +1,7 @@
 // Intel HEX in and out (document 02, P2): an image written as its one standard text, and a text read into an image. Nothing here knows
 // what the image holds.
+#![tactic(auto)]
+
 mod lines;
 mod records;
 mod texts;
@@ -12,7 +14,7 @@ ghost use Rattle.intelhex.specs.Doors.{answer, outcome, sized, write_of, blank, 
 use lines::NOT_YET;
 
 // What a door answers: 0 or the number of the refusal, the line at fault, and how long the text is that was written.
-#[derive(Drop)]
+#[derive(Clone, Copy)]
 pub struct Answer {
     pub code: u32,
     pub line: usize,

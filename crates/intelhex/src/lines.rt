@@ -79,7 +79,7 @@ fn line_end(text: &[u8], at: usize) -> usize
 
 // What stands before the data of a line: how many bytes of data there are, their address, the type, and the sum of these bytes; and
 // whether there is a colon and the count is a byte.
-#[derive(Drop)]
+#[derive(Clone, Copy)]
 pub(crate) struct Head {
     pub(crate) formed: bool,
     pub(crate) count: usize,
@@ -118,7 +118,7 @@ fn head_at(values: &[u32; 256], text: &[u8], at: usize) -> Head
 
 // What the data of a line come to: their sum, and, if all of them are bytes, whether a cell had its byte
 // before.
-#[derive(Drop)]
+#[derive(Clone, Copy)]
 pub(crate) struct Data {
     pub(crate) sum: usize,
     pub(crate) twice: bool,
@@ -219,7 +219,7 @@ fn fault_of(sum: usize, kind: usize, address: usize, count: usize, size: usize, 
 
 // A line that was read: what it is at fault for; and if for nothing, where the next one begins, how many cells it filled, and
 // whether it is the end record.
-#[derive(Drop)]
+#[derive(Clone, Copy)]
 pub(crate) struct Read {
     pub(crate) code: u32,
     pub(crate) next: usize,

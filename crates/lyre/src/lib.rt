@@ -1,5 +1,7 @@
 // The doors for C, as include/lyre.h declares them. Each hands its arguments to a door of the counter, of hex, of card, of dumps or of
 // room, and promises what that door promises.
+#![tactic(auto)]
+
 ghost use Rattle.std.specs.Prelude.{◌≡◌, length};
 ghost use Rattle.cells.specs.Chip.{chip};
 ghost use Rattle.counter.specs.Layout.{two};
@@ -19,7 +21,7 @@ ghost use Rattle.lyre.specs.Plain.{answer_in, read_answer_in, part_in, kept_in, 
 
 // lyre_answer.
 #[repr(C)]
-#[derive(Drop)]
+#[derive(Clone, Copy)]
 pub struct Answer {
     pub code: u32,
     pub count: u32,
@@ -31,7 +33,7 @@ pub struct Answer {
 
 // lyre_read_answer.
 #[repr(C)]
-#[derive(Drop)]
+#[derive(Clone, Copy)]
 pub struct ReadAnswer {
     pub code: u32,
     pub count: u32,
@@ -44,7 +46,7 @@ pub struct ReadAnswer {
 
 // lyre_part.
 #[repr(C)]
-#[derive(Drop)]
+#[derive(Clone, Copy)]
 pub struct Part {
     pub code: u32,
     pub start: u64,
@@ -53,7 +55,7 @@ pub struct Part {
 
 // lyre_kept.
 #[repr(C)]
-#[derive(Drop)]
+#[derive(Clone, Copy)]
 pub struct Kept {
     pub code: u32,
     pub count: u32,
@@ -67,7 +69,7 @@ pub struct Kept {
 
 // lyre_room.
 #[repr(C)]
-#[derive(Drop)]
+#[derive(Clone, Copy)]
 pub struct Room {
     pub high: u64,
     pub low: u64,
@@ -75,7 +77,7 @@ pub struct Room {
 
 // lyre_hex.
 #[repr(C)]
-#[derive(Drop)]
+#[derive(Clone, Copy)]
 pub struct Hex {
     pub code: u32,
     pub line: u64,
@@ -84,7 +86,7 @@ pub struct Hex {
 
 // lyre_card.
 #[repr(C)]
-#[derive(Drop)]
+#[derive(Clone, Copy)]
 pub struct Card {
     pub code: u32,
     pub used: u32,
@@ -94,7 +96,7 @@ pub struct Card {
 
 // lyre_text.
 #[repr(C)]
-#[derive(Drop)]
+#[derive(Clone, Copy)]
 pub struct Text {
     pub code: u32,
     pub length: u64,
@@ -115,22 +117,14 @@ fn plain(answer: counter::verdict::Answer) -> Answer
 }
 
 // Opens a chip.
-#[unsafe(no_mangle)]
-pub extern "C" fn lyre_open(
-    image: &mut [u8],
-    lives: &mut [u32],
-    m: usize,
-    s: usize,
-    e: usize,
-) -> Answer
+pub fn lyre_open(image: &mut [u8], lives: &mut [u32], m: usize, s: usize, e: usize) -> Answer
     ensures { Opens (places m s e) (chip image.old lives.old) (answer_in result) (chip image.new lives.new) }
 {
     plain(counter::doors::open(image, lives, m, s, e))
 }
 
 // Reads the count, and which bits were mended.
-#[unsafe(no_mangle)]
-pub extern "C" fn lyre_read(image: &[u8], m: usize, s: usize, e: usize) -> ReadAnswer
+pub fn lyre_read(image: &[u8], m: usize, s: usize, e: usize) -> ReadAnswer
     ensures { Reads (places m s e) image.now (read_answer_in result) }
 {
     let read = counter::doors::read(image, m, s, e);
@@ -148,22 +142,14 @@ pub extern "C" fn lyre_read(image: &[u8], m: usize, s: usize, e: usize) -> ReadA
 }
 
 // Steps the count by one.
-#[unsafe(no_mangle)]
-pub extern "C" fn lyre_step(
-    image: &mut [u8],
-    lives: &mut [u32],
-    m: usize,
-    s: usize,
-    e: usize,
-) -> Answer
+pub fn lyre_step(image: &mut [u8], lives: &mut [u32], m: usize, s: usize, e: usize) -> Answer
     ensures { Steps (places m s e) (chip image.old lives.old) (answer_in result) (chip image.new lives.new) }
 {
     plain(counter::doors::step(image, lives, m, s, e))
 }
 
 // Says where in the image the map cells of a copy stand.
-#[unsafe(no_mangle)]
-pub extern "C" fn lyre_map_part(image: &[u8], m: usize, s: usize, e: usize, copy: u32) -> Part
+pub fn lyre_map_part(image: &[u8], m: usize, s: usize, e: usize, copy: u32) -> Part
     ensures { part_in result ≡ map_part_of two (places m s e) image.now copy }
 {
     let part = counter::doors::part_of(image, m, s, e, copy);
@@ -175,8 +161,7 @@ pub extern "C" fn lyre_map_part(image: &[u8], m: usize, s: usize, e: usize, copy
 }
 
 // Opens a chip, with power for so many writes.
-#[unsafe(no_mangle)]
-pub extern "C" fn lyre_trial_open(
+pub fn lyre_trial_open(
     image: &mut [u8],
     lives: &mut [u32],
     m: usize,
@@ -191,8 +176,7 @@ pub extern "C" fn lyre_trial_open(
 }
 
 // Steps the count by one, with power for so many writes.
-#[unsafe(no_mangle)]
-pub extern "C" fn lyre_trial_step(
+pub fn lyre_trial_step(
     image: &mut [u8],
     lives: &mut [u32],
     m: usize,
@@ -207,8 +191,7 @@ pub extern "C" fn lyre_trial_step(
 }
 
 // Reads every image of a tray into two rows.
-#[unsafe(no_mangle)]
-pub extern "C" fn lyre_tray(
+pub fn lyre_tray(
     tray: &[u8],
     each: usize,
     m: usize,
@@ -251,22 +234,14 @@ fn ends_in(high: u64, low: u64) -> counter::ends::Ends
 }
 
 // Opens a chip, and works out the ends of its map.
-#[unsafe(no_mangle)]
-pub extern "C" fn lyre_kept_open(
-    image: &mut [u8],
-    lives: &mut [u32],
-    m: usize,
-    s: usize,
-    e: usize,
-) -> Kept
+pub fn lyre_kept_open(image: &mut [u8], lives: &mut [u32], m: usize, s: usize, e: usize) -> Kept
     ensures { kept (gives (kept_in result).answer (chip image.new lives.new)) (kept_in result).ends ≡ kept_open_of two (places m s e) (chip image.old lives.old) }
 {
     plain_kept(room::kept::kept_open(image, lives, m, s, e))
 }
 
 // Steps the count by one, and keeps the ends of the map.
-#[unsafe(no_mangle)]
-pub extern "C" fn lyre_kept_step(
+pub fn lyre_kept_step(
     image: &mut [u8],
     lives: &mut [u32],
     m: usize,
@@ -281,8 +256,7 @@ pub extern "C" fn lyre_kept_step(
 }
 
 // Opens a chip, with power for so many writes, and works out the ends of its map.
-#[unsafe(no_mangle)]
-pub extern "C" fn lyre_kept_trial_open(
+pub fn lyre_kept_trial_open(
     image: &mut [u8],
     lives: &mut [u32],
     m: usize,
@@ -297,8 +271,7 @@ pub extern "C" fn lyre_kept_trial_open(
 }
 
 // Steps the count by one, with power for so many writes, and keeps the ends of the map.
-#[unsafe(no_mangle)]
-pub extern "C" fn lyre_kept_trial_step(
+pub fn lyre_kept_trial_step(
     image: &mut [u8],
     lives: &mut [u32],
     m: usize,
@@ -325,16 +298,14 @@ fn plain_room(left: room::left::Room) -> Room
 }
 
 // The room that two ends leave.
-#[unsafe(no_mangle)]
-pub extern "C" fn lyre_room_left(high: u64, low: u64) -> Room
+pub fn lyre_room_left(high: u64, low: u64) -> Room
     ensures { room_in result ≡ left_of (ends high low) }
 {
     plain_room(room::left::room_left(ends_in(high, low)))
 }
 
 // The room in an image, counted from its whole map.
-#[unsafe(no_mangle)]
-pub extern "C" fn lyre_room_of(image: &[u8], m: usize, s: usize, e: usize) -> Room
+pub fn lyre_room_of(image: &[u8], m: usize, s: usize, e: usize) -> Room
     ensures { room_in result ≡ room_of two (places m s e) image.now }
 {
     plain_room(room::left::room_of(image, m, s, e))
@@ -352,24 +323,21 @@ fn plain_hex(answer: intelhex::Answer) -> Hex
 }
 
 // Writes an image as Intel HEX.
-#[unsafe(no_mangle)]
-pub extern "C" fn lyre_hex_write(image: &[u8], text: &mut [u8]) -> Hex
+pub fn lyre_hex_write(image: &[u8], text: &mut [u8]) -> Hex
     ensures { outcome (hex_in result) text.new ≡ write_of image.now text.old }
 {
     plain_hex(intelhex::write_image(image, text))
 }
 
 // Reads Intel HEX into an image.
-#[unsafe(no_mangle)]
-pub extern "C" fn lyre_hex_read(text: &[u8], image: &mut [u8]) -> Hex
+pub fn lyre_hex_read(text: &[u8], image: &mut [u8]) -> Hex
     ensures { outcome (hex_in result) image.new ≡ read_of text.now image.old }
 {
     plain_hex(intelhex::read_image(text, image))
 }
 
 // What the card that a text shows answers at a count.
-#[unsafe(no_mangle)]
-pub extern "C" fn lyre_card_at(text: &[u8], count: u32) -> Card
+pub fn lyre_card_at(text: &[u8], count: u32) -> Card
     ensures { Told text.now (λ c. answer_of (length c.speeds) c count) (refused 5) (card_answer_in result) }
 {
     let answer = card::answer_of_text(text, count);
@@ -382,8 +350,7 @@ pub extern "C" fn lyre_card_at(text: &[u8], count: u32) -> Card
 }
 
 // Writes a card as its text.
-#[unsafe(no_mangle)]
-pub extern "C" fn lyre_card_write(
+pub fn lyre_card_write(
     fitted: u32,
     allowed: u32,
     speeds: &[u32],

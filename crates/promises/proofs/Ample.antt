@@ -1,8 +1,8 @@
 -- Storing where the cells to be written have life: each is written once, where it is, and nothing else.
 --   changed_writes             a write for each slot whose byte is another than it is to be
 --   Calm                      storing that is done with just those writes, the map staying as it is
---   calm-from, calm-store     so it goes where those cells have life
---   tally-slot, tally_other   how many of those writes are asked of a slot's cell, and of any other
+--   calm_from, calm_store     so it goes where those cells have life
+--   tally_slot, tally_other   how many of those writes are asked of a slot's cell, and of any other
 use Prim.Native.Nat.{ℕ, zero, suc, ◌+◌, ◌≤◌, ◌<◌}
 use mathlib.Core.Path.{◌≡◌, refl, sym, ap, ◌∙◌}
 use mathlib.Core.Bool.{Bool, true, false, cond}
@@ -28,7 +28,7 @@ use Rattle.counter.proofs.SoundPointers.{Sound}
 use Rattle.counter.proofs.Ready.{pointers, data_of, Ready}
 use Rattle.counter.proofs.Moves.{change, slot_there}
 use Rattle.counter.proofs.WorkSteps.{store_all, store_none, store_next}
-use Rattle.promises.proofs.Written.{slot-written, written_map, written_ready, written_sound, written_data, written_life}
+use Rattle.promises.proofs.Written.{slot_written, written_map, written_ready, written_sound, written_data, written_life}
 
 -- w in front of ws, where the test does not hold
 abbrev pub unless_same : Bool → Write → List Write → List Write
@@ -40,14 +40,14 @@ unfoldable pub changed_writes : ℕ → ℕ → (ℕ → ℕ) → (ℕ → ℕ) 
 changed_writes zero k pointer byte code = []
 changed_writes (suc n) k pointer byte code = unless_same (eqb (byte k) (code k)) (write (pointer k) (code k)) (changed_writes n (k + 1) pointer byte code)
 
-pub writes-same :
+pub writes_same :
     (n k : ℕ) (f h f' h' code : ℕ → ℕ) → ((j : ℕ) → k ≤ j → j < k + n → (f j ≡ f' j) × (h j ≡ h' j))
     → changed_writes n k f h code ≡ changed_writes n k f' h' code
 unfolding changed_writes
-writes-same zero k f h f' h' code same = refl
-writes-same (suc n) k f h f' h' code same =
+writes_same zero k f h f' h' code same = refl
+writes_same (suc n) k f h f' h' code same =
     let e = same k (omega arith) (omega arith) in
-    rw (e.0, e.1, writes-same n (k + 1) f h f' h' code (λ j l u. same j (omega arith) (omega arith)))
+    rw (e.0, e.1, writes_same n (k + 1) f h f' h' code (λ j l u. same j (omega arith) (omega arith)))
 
 pub record Calm (layout : Layout) (p : Places) (n k c : ℕ) (s : Chip) (r : Run Work) : Type 0 where
   pub done : r.answer ≡ Done
@@ -61,11 +61,11 @@ Alive layout p n k c s = (j : ℕ) → k ≤ j → j < k + n → (data_of layout
 
 module _ (layout : Layout) (p : Places) (c : ℕ) where
   -- a slot that holds its byte is passed over
-  calm-there :
+  calm_there :
       (n k : ℕ) (s : Chip) (q : Run Work) → data_of layout p s k ≡ slot_code c k → Calm layout p n (k + 1) c s q
       → Calm layout p (suc n) k c s (still Done s then q)
   unfolding changed_writes
-  calm-there n k s q e calm =
+  calm_there n k s q e calm =
       record {
         done = calm.done;
         tried = zero-add _ ∙ calm.tried;
@@ -94,11 +94,11 @@ module _ (layout : Layout) (p : Places) (c : ℕ) where
     still_alive h j l u d = rw (written_life ready sound k inside (slot_code c k) j (omega arith) (λ e. omega arith)) (h j (omega arith) (omega arith) (λ e. d (data_same j (omega arith) (λ q. omega arith) ∙ e)))
 
     -- what the later slots are to write is the same on both chips
-    rest-same :
+    rest_same :
         changed_writes n (k + 1) (pointers layout p t) (data_of layout p t) (slot_code c)
         ≡ changed_writes n (k + 1) (pointers layout p s) (data_of layout p s) (slot_code c)
-    rest-same =
-        writes-same n (k + 1) _ _ _ _ (slot_code c)
+    rest_same =
+        writes_same n (k + 1) _ _ _ _ (slot_code c)
         (λ j l u. (ap (λ (map : List ℕ). pointer_of map j) map_same, data_same j (omega arith) (λ e. omega arith)))
 
     -- a slot that changes is one write
@@ -109,16 +109,16 @@ module _ (layout : Layout) (p : Places) (c : ℕ) where
           done = calm.done;
           tried = zero-add _ ∙ calm.tried;
           map = calm.map ∙ map_same;
-          log = rw (ne_eqb _ _ other) (ap (λ (ws : List Write). write a (slot_code c k) ∷ ws) (calm.log ∙ rest-same));
+          log = rw (ne_eqb _ _ other) (ap (λ (ws : List Write). write a (slot_code c k) ∷ ws) (calm.log ∙ rest_same));
         }
 
-  pub calm-from :
+  pub calm_from :
       (n k : ℕ) (s : Chip) → k + n ≤ slots layout → Ready layout p s
       → Sound (slots layout) p (pointers layout p s) → Alive layout p n k c s
       → Calm layout p n k c s (store_from n k layout p c s)
   unfolding changed_writes
-  calm-from zero k s fits ready sound alive = rw (store_none layout p c k s) (record { done = refl; tried = refl; map = refl; log = refl })
-  calm-from (suc n) k s fits ready sound alive = rw (store_next layout p c n k s) (go (calm-from n (k + 1)) (ℕ_discrete (data_of layout p s k) (slot_code c k)))
+  calm_from zero k s fits ready sound alive = rw (store_none layout p c k s) (record { done = refl; tried = refl; map = refl; log = refl })
+  calm_from (suc n) k s fits ready sound alive = rw (store_next layout p c n k s) (go (calm_from n (k + 1)) (ℕ_discrete (data_of layout p s k) (slot_code c k)))
     where
       Rest : Type 0
       Rest =
@@ -131,7 +131,7 @@ module _ (layout : Layout) (p : Places) (c : ℕ) where
           → Calm layout p (suc n) k c s (store_slot layout p k (slot_code c k) s and_then store_from n (k + 1) layout p c)
       go rest (yes e) =
           rw (slot_there layout p k (slot_code c k) s e)
-          (calm-there n k s _ e (rest s (omega arith) ready sound (λ j l u d. alive j (omega arith) (omega arith) d)))
+          (calm_there n k s _ e (rest s (omega arith) ready sound (λ j l u d. alive j (omega arith) (omega arith) d)))
       go rest (no d) =
           let here : k < slots layout = omega arith in
           let life = alive k (omega arith) (omega arith) d in
@@ -140,12 +140,12 @@ module _ (layout : Layout) (p : Places) (c : ℕ) where
           (written_ready ready sound k here (slot_code c k))
           (written_sound ready sound k here (slot_code c k))
           (still_alive n k s ready sound fits d alive) in
-          rw (slot-written ready sound k here (slot_code c k) d life) (calm_taken n k s ready sound fits d _ later)
+          rw (slot_written ready sound k here (slot_code c k) d life) (calm_taken n k s ready sound fits d _ later)
 
-  pub calm-store :
+  pub calm_store :
       (s : Chip) → Ready layout p s → Sound (slots layout) p (pointers layout p s)
       → Alive layout p (slots layout) 0 c s → Calm layout p (slots layout) 0 c s (store layout p c s)
-  calm-store s ready sound alive = rw (store_all layout p c s) (calm-from (slots layout) 0 s (omega arith) ready sound alive)
+  calm_store s ready sound alive = rw (store_all layout p c s) (calm_from (slots layout) 0 s (omega arith) ready sound alive)
 
 -- ## Tallies
 
@@ -166,13 +166,13 @@ module _ (pointer byte code : ℕ → ℕ) where
   tally_other a (suc n) k d = asked_skip a _ _ (eqb (byte k) (code k)) (d k (omega arith) (omega arith)) ∙ tally_other a n (k + 1) (λ i l u. d i (omega arith) (omega arith))
 
   -- a slot's cell is asked one write where its byte changes, else none
-  pub tally-slot :
+  pub tally_slot :
       (n k j : ℕ) → k ≤ j → j < k + n
       → ((i : ℕ) → k ≤ i → i < k + n → (i ≡ j → ⊥) → pointer i ≡ pointer j → ⊥)
       → asked_of (pointer j) (changed_writes n k pointer byte code) ≡ change (byte j) (code j)
   unfolding changed_writes
-  tally-slot zero k j l u d = absurd (omega arith)
-  tally-slot (suc n) k j l u d = go (λ m. tally-slot n (k + 1) j (omega arith) (omega arith) (λ i l u. d i (omega arith) (omega arith))) (ℕ_discrete k j)
+  tally_slot zero k j l u d = absurd (omega arith)
+  tally_slot (suc n) k j l u d = go (λ m. tally_slot n (k + 1) j (omega arith) (omega arith) (λ i l u. d i (omega arith) (omega arith))) (ℕ_discrete k j)
     where
       rest : List Write
       rest = changed_writes n (k + 1) pointer byte code

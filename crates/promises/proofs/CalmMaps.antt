@@ -1,6 +1,6 @@
 -- Pointers and mark put where every cell of the map has life: done, and no cell is asked more than one write.
 --   Calmly                    map bytes put so, in a place
---   calm-points               the pointers of the slots from k on
+--   calm_points               the pointers of the slots from k on
 --   points_calm               those of all slots
 --   calm_maps                 all pointers, then the mark
 use Prim.Native.Nat.{ℕ, ◌+◌, ◌≤◌, ◌<◌}
@@ -30,7 +30,7 @@ use Rattle.counter.proofs.Ready.{Ready, InMap, ready_kept}
 use Rattle.counter.proofs.Pointers.{done_mapped}
 use Rattle.counter.proofs.PointerRows.{pointers_row, mark_row, row_length}
 use Rattle.counter.proofs.Stores.{done_then}
-use Rattle.counter.proofs.Openings.{PointsLaws, points-laws, map_laws}
+use Rattle.counter.proofs.Openings.{PointsLaws, points_laws, map_laws}
 
 pub record Calmly (Place : ℕ → Type 0) (r : Run Work) : Type 0 where
   pub done : r.answer ≡ Done
@@ -53,10 +53,10 @@ row_calm bytes a s paired alive =
     let laws = row_laws bytes a s paired in
     record { done = done_mapped _ (laws.alive alive); places = laws.within.places; once = once_row bytes a s }
 
-pub calm-points :
+pub calm_points :
     {layout : Layout} {p : Places} (addresses : List ℕ) (k : ℕ) (s : Chip) → Ready layout p s → k + length addresses ≤ slots layout
     → LiveFrom (offset_of k) layout p s → Calmly (Behind (offset_of k) p) (put_pointers addresses k layout p s)
-calm-points {layout} {p} addresses k s ready fits live =
+calm_points {layout} {p} addresses k s ready fits live =
     let size = row_length addresses k in
     let most = offset_most layout (k + length addresses) fits in
     let calm = row_calm (pointer_row addresses k) (p.map + offset_of k) s ready.paired (λ j l. live _ (omega arith) (omega arith)) in
@@ -68,10 +68,10 @@ module _ {layout : Layout} {p : Places} {s : Chip} (ready : Ready layout p s) (a
   pointing = put_pointers addresses 0 layout p s
 
   pub points_calm : Calmly (Behind (offset_of 0) p) pointing
-  points_calm = calm-points addresses 0 s ready (omega arith) (λ c from to. live c (omega arith) to)
+  points_calm = calm_points addresses 0 s ready (omega arith) (λ c from to. live c (omega arith) to)
 
   points : PointsLaws layout p addresses 0 s pointing
-  points = points-laws layout p addresses 0 s ready (omega arith)
+  points = points_laws layout p addresses 0 s ready (omega arith)
 
   -- the mark's cells are in front of all pointers
   mark_live : (j : ℕ) → j < 2 → 1 ≤ life_at pointing.after (p.map + j)

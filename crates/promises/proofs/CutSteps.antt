@@ -34,12 +34,12 @@ use Rattle.counter.specs.Doors.{last_count, open_run, step_run, open_of}
 use Rattle.counter.specs.Trials.{cut_outcome, trial_step_of}
 use Rattle.counter.proofs.SoundPointers.{Sound}
 use Rattle.counter.proofs.Ready.{pointers, data_of, Ready, ready_kept, inside_cell}
-use Rattle.counter.proofs.Exact.{Exact, exact-stored}
+use Rattle.counter.proofs.Exact.{Exact, exact_stored}
 use Rattle.counter.proofs.DoorViews.{chip_verdict_lem, open_on}
 use Rattle.counter.proofs.DoorAnswers.{good_says, open_is, trial_step_is}
 use Rattle.counter.proofs.NextStores.{changed_nibble, step_stays}
 use Rattle.promises.proofs.Written.{written_map, written_data}
-use Rattle.promises.proofs.Ample.{Calm, Alive, calm-store}
+use Rattle.promises.proofs.Ample.{Calm, Alive, calm_store}
 use Rattle.promises.proofs.ExactSteps.{step_writes, StepCalm, step_calm}
 
 -- ## What is claimed
@@ -215,19 +215,19 @@ module _ {layout : Layout} {p : Places} {c : ℕ} {s : Chip} (clean : Clean layo
         let e : copy + suc i ≡ copy + 1 + i = omega arith in
         rw (e, tear_later b (write (pointers layout p s (changed_slot c copy)) (slot_code (c + 1) (changed_slot c copy))) (step_writes n (copy + 1) (pointers layout p s) c) v u i) rest
 
-    cut-from :
+    cut_from :
         (i n copy : ℕ) (u : Chip) → copy + n ≡ layout.copies → i < n → Stepped copy u
         → LostIn (copy + i) (tear i b (step_writes n copy (pointers layout p s) c) v u)
-    cut-from i zero copy u all l stepped = absurd (omega arith)
-    cut-from zero (suc n) copy u all l stepped = cut_here n copy u (omega arith) stepped
-    cut-from (suc i) (suc n) copy u all l stepped =
+    cut_from i zero copy u all l stepped = absurd (omega arith)
+    cut_from zero (suc n) copy u all l stepped = cut_here n copy u (omega arith) stepped
+    cut_from (suc i) (suc n) copy u all l stepped =
         cut_later i n copy u
-        (cut-from i n (copy + 1) _ (omega arith) (omega arith) (stepped_next copy (omega arith) (slot_code (c + 1) (changed_slot c copy)) u stepped refl))
+        (cut_from i n (copy + 1) _ (omega arith) (omega arith) (stepped_next copy (omega arith) (slot_code (c + 1) (changed_slot c copy)) u stepped refl))
 
   pub cut_step : (i b : ℕ) → i < layout.copies → CutStep layout p c i b s
   cut_step i b l =
       let calm : StepCalm layout p c s = step_calm (omega arith) clean.below clean.exact (λ copy m. let h = clean.life copy m in omega arith) in
-      let (t, ends, torn) = cut-from b (view (step_run layout p s)) i layout.copies 0 s (zero-add _) l none_stepped in
+      let (t, ends, torn) = cut_from b (view (step_run layout p s)) i layout.copies 0 s (zero-add _) l none_stepped in
       let cuts : cut i b (step_run layout p s) s ≡ lost (pointers layout p s (changed_slot c (0 + i))) t = ap (λ (log : List Write). tear i b log (view (step_run layout p s)) s) calm.log ∙ ends in
       rw_cut t (rw zero-add at cuts) (rw zero-add at torn)
     where
@@ -279,14 +279,14 @@ module _ {layout : Layout} {p : Places} {c : ℕ} {s : Chip} (clean : Clean layo
       pub torn_reopens : {lag : ℤ} → verdict_of layout p t.cells ≡ Good d lag → Reopens layout p d lag t
       torn_reopens {lag} reads =
           let on = open_on layout p t d lag (chip_verdict_lem layout p t torn.ready.paired ∙ reads) in
-          let calm : Calm layout p (slots layout) 0 d t (store layout p d t) = calm-store layout p d t torn.ready torn.sound alive in
+          let calm : Calm layout p (slots layout) 0 d t (store layout p d t) = calm_store layout p d t torn.ready torn.sound alive in
           let well : (open_run layout p t).answer ≡ Good d lag = rw on (ap (ending (Good d lag)) calm.done) in
           let none : (open_run layout p t).tried ≡ 0 = rw on calm.tried in
-          let stored : Exact layout p d (open_run layout p t).after = rw on (exact-stored torn.ready d torn.marks torn.sound calm.done) in
-          rw-open (good_says (open_run layout p t) well ∙ rw none) (rw on calm.map) stored
+          let stored : Exact layout p d (open_run layout p t).after = rw on (exact_stored torn.ready d torn.marks torn.sound calm.done) in
+          rw_open (good_says (open_run layout p t) well ∙ rw none) (rw on calm.map) stored
         where
-          rw-open :
+          rw_open :
               (outcome_of (open_run layout p t)).says ≡ answer 0 d lag 0 (length (open_run layout p t).log) 0
               → map_in layout p (open_run layout p t).after.cells ≡ map_in layout p t.cells
               → Exact layout p d (open_run layout p t).after → Reopens layout p d lag t
-          rw-open says map exact = record { says = rw (open_is layout p t, says); map = rw (open_is layout p t) map; exact = rw (open_is layout p t) exact }
+          rw_open says map exact = record { says = rw (open_is layout p t, says); map = rw (open_is layout p t) map; exact = rw (open_is layout p t) exact }

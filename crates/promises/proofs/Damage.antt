@@ -3,7 +3,7 @@
 --   shown, Damaged   such a change
 --   damaged_reads    what is read then; of the counts of mended bits it says nothing
 --   erased_reads     the whole answer, where any one data cell was erased: nothing was mended
---   open-outlives, step-outlives   damaged_reads, of what a good open or step left
+--   open_outlives, step_outlives   damaged_reads, of what a good open or step left
 use Prim.Native.Nat.{ℕ, ◌+◌, ◌*◌, ◌%◌, ◌^◌, ◌≤◌, ◌<◌}
 use mathlib.Core.Path.{◌≡◌, ap, ◌∙◌}
 use mathlib.Core.Bool.{true, false}
@@ -112,12 +112,12 @@ module _ {layout : Layout} {p : Places} {c : ℕ} {s t : Chip} (exact : Exact la
     erased_reads = λ i. record { answer = damaged_reads damaged i; bits = no_counts i }
 
 module _ (layout : Layout) (p : Places) (s t : Chip) where
-  pub open-outlives :
+  pub open_outlives :
       (open_of layout p s).says.code ≡ 0 → Damaged layout p (open_of layout p s).says.count (open_of layout p s).leaves t
       → read_of layout p t.cells ≡ answer 0 (open_of layout p s).says.count (pos 0) 0 0 0
-  open-outlives good = let (small, exact) = left_by_open layout p s good in damaged_reads exact small
+  open_outlives good = let (small, exact) = left_by_open layout p s good in damaged_reads exact small
 
-  pub step-outlives :
+  pub step_outlives :
       (step_of layout p s).says.code ≡ 0 → Damaged layout p (step_of layout p s).says.count (step_of layout p s).leaves t
       → read_of layout p t.cells ≡ answer 0 (step_of layout p s).says.count (pos 0) 0 0 0
-  step-outlives good = let (small, exact) = left_by_step layout p s good in damaged_reads exact small
+  step_outlives good = let (small, exact) = left_by_step layout p s good in damaged_reads exact small

@@ -26,10 +26,10 @@ use Rattle.counter.specs.Opening.{first_opening}
 use Rattle.counter.specs.Doors.{last_count, chip_verdict, open_run, step_run}
 use Rattle.counter.proofs.Ready.{Ready, Own}
 use Rattle.counter.proofs.Moves.{not_done, Ended, Ended.done, Ended.roomless, Ended.unmapped}
-use Rattle.counter.proofs.Stores.{store-laws, done_then, stopped_then}
+use Rattle.counter.proofs.Stores.{store_laws, done_then, stopped_then}
 use Rattle.counter.proofs.Openings.{opening_laws}
-use Rattle.counter.proofs.Exact.{Exact, exact-stored, exact_opened}
-use Rattle.counter.proofs.GoodVerdicts.{VerdictGood, verdict-good, of_storing, verdict_reads}
+use Rattle.counter.proofs.Exact.{Exact, exact_stored, exact_opened}
+use Rattle.counter.proofs.GoodVerdicts.{VerdictGood, verdict_good, of_storing, verdict_reads}
 use Rattle.counter.proofs.DoorViews.{unopened, unopened_ready, open_first, open_again, step_refused, step_last, step_on}
 
 pub data Comes (layout : Layout) (p : Places) (s : Chip) (r : Run Verdict) : Type 0 where
@@ -63,8 +63,8 @@ module _ {layout : Layout} {p : Places} {s : Chip} where
 
   store_leaves : {c d : ℕ} → VerdictGood layout p d s → Leaves layout p c s (store layout p c s)
   store_leaves {c} v =
-      let laws = store-laws layout p c s v.ready v.sound in
-      record { within = laws.within; ended = laws.ended; exact = exact-stored v.ready c v.marks v.sound }
+      let laws = store_laws layout p c s v.ready v.sound in
+      record { within = laws.within; ended = laws.ended; exact = exact_stored v.ready c v.marks v.sound }
 
   opening_leaves : Ready layout p s → Leaves layout p 0 s (first_opening layout p s)
   opening_leaves ready =
@@ -97,7 +97,7 @@ module _ {layout : Layout} {p : Places} {s : Chip} where
 
 module _ (layout : Layout) (p : Places) (s : Chip) where
   again : (v : Verdict) → chip_verdict layout p s ≡ v → DoorLaws layout p s (on_good v (λ c lag. store layout p c s ending_in Good c lag) s)
-  again (Good c lag) e = let v = (verdict-good layout p s e).1 in ending_laws lag (store layout p c s) v.small (store_leaves v)
+  again (Good c lag) e = let v = (verdict_good layout p s e).1 in ending_laws lag (store layout p c s) v.small (store_leaves v)
   again (Refused why) e = refused_laws why (verdict_reads layout p s e)
 
   pub open_laws : DoorLaws layout p s (open_run layout p s)
@@ -116,7 +116,7 @@ module _ (layout : Layout) (p : Places) (s : Chip) where
       counted : (c : ℕ) (lag : ℤ) → chip_verdict layout p s ≡ Good c lag → Dec (c ≡ last_count) → DoorLaws layout p s (step_run layout p s)
       counted c lag e (yes l) = rw (step_last layout p s c lag e l) (refused_laws LastCount refl)
       counted c lag e (no n) =
-          let v = (verdict-good layout p s e).1 in
+          let v = (verdict_good layout p s e).1 in
           let small = v.small in
           rw (step_on layout p s c lag e n) (ending_laws lag _ (omega arith) (two_leave v))
 

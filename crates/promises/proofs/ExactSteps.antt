@@ -31,13 +31,13 @@ use Rattle.counter.specs.Store.{slot_code, store}
 use Rattle.counter.specs.Doors.{last_count, step_run}
 use Rattle.counter.proofs.Ready.{pointers, data_of}
 use Rattle.counter.proofs.Moves.{room_of}
-use Rattle.counter.proofs.Stores.{changes, changes_same, StoreLaws, store-laws}
-use Rattle.counter.proofs.Exact.{Exact, exact-stored, exact_verdict, exact_still}
+use Rattle.counter.proofs.Stores.{changes, changes_same, StoreLaws, store_laws}
+use Rattle.counter.proofs.Exact.{Exact, exact_stored, exact_verdict, exact_still}
 use Rattle.counter.proofs.GoodVerdicts.{not_good}
 use Rattle.counter.proofs.DoorViews.{step_on}
 use Rattle.counter.proofs.NextStores.{changed_nibble, step_changed, step_stays}
 use Rattle.promises.proofs.StepChanges.{change_step, step_changes}
-use Rattle.promises.proofs.Ample.{changed_writes, writes-same, Calm, Alive, calm-store, tally-slot, tally_other}
+use Rattle.promises.proofs.Ample.{changed_writes, writes_same, Calm, Alive, calm_store, tally_slot, tally_other}
 
 -- ## The writes of a step
 
@@ -58,11 +58,11 @@ skip pointer byte code (suc m) n k same =
     rw (e, f, eq-eqb _ _ (same k (omega arith) (omega arith))) (skip pointer byte code m n (k + 1) (λ j l u. same j (omega arith) (omega arith)))
 
 -- a slot that changes is a write, and then the rest
-one-write :
+one_write :
     (pointer byte code : ℕ → ℕ) (n k : ℕ) → (byte k ≡ code k → ⊥)
     → changed_writes (suc n) k pointer byte code ≡ write (pointer k) (code k) ∷ changed_writes n (k + 1) pointer byte code
 unfolding changed_writes
-one-write pointer byte code n k d = rw (ne_eqb _ _ d)
+one_write pointer byte code n k d = rw (ne_eqb _ _ d)
 
 module _ (c : ℕ) (small : c + 1 < 2 ^ 32) (pointer : ℕ → ℕ) where
   abbrev changed : ℕ → ℕ → List Write
@@ -90,7 +90,7 @@ module _ (c : ℕ) (small : c + 1 < 2 ^ 32) (pointer : ℕ → ℕ) where
       let small-nibble = step_nibble_small c small in
       let here : (8 * copy + changed_nibble c) % 8 ≡ changed_nibble c = omega arith in
       before n copy
-      ∙ one-write pointer (slot_code c) (slot_code (c + 1)) (7 - changed_nibble c + 8 * n) (8 * copy + changed_nibble c) (step_changed c small _ here)
+      ∙ one_write pointer (slot_code c) (slot_code (c + 1)) (7 - changed_nibble c + 8 * n) (8 * copy + changed_nibble c) (step_changed c small _ here)
       ∙ ap (λ (ws : List Write). write (pointer (8 * copy + changed_nibble c)) (slot_code (c + 1) (8 * copy + changed_nibble c)) ∷ ws) (behind n copy ∙ step_log n (copy + 1))
 
 -- ## A step on an exact chip
@@ -132,22 +132,22 @@ module _ {layout : Layout} {p : Places} {c : ℕ} {s : Chip} (one : 1 ≤ layout
       after = rw zero-add
 
   laws : StoreLaws layout p (slots layout) 0 (c + 1) s next
-  laws = store-laws layout p (c + 1) s exact.ready exact.sound
+  laws = store_laws layout p (c + 1) s exact.ready exact.sound
 
   cost : changes (slots layout) 0 (data_of layout p s) (slot_code (c + 1)) ≡ layout.copies
   cost = changes_same (slots layout) 0 _ _ (slot_code (c + 1)) (λ j l u. exact.held j (omega arith)) ∙ step_changes c (omega arith) layout
 
   pub step_bound : StepBound layout p s
   step_bound =
-      rw-bound
+      rw_bound
       (let h = laws.bounded in omega (arith, cost))
       (λ d lag e. let h = (laws.stored (ending_done (Good (c + 1) (pos 0)) next.answer e)).paid in omega (arith, cost))
     where
-      rw-bound :
+      rw_bound :
           asked_in p.start p.end next.log ≤ layout.copies + room_of layout p s
           → ((d : ℕ) (lag : ℤ) → ending (Good (c + 1) (pos 0)) next.answer ≡ Good d lag → asked_in p.start p.end next.log + room_of layout p next.after ≤ layout.copies + room_of layout p s)
           → StepBound layout p s
-      rw-bound bounded paid = record { bounded = rw step_stores bounded; paid = rw step_stores paid }
+      rw_bound bounded paid = record { bounded = rw step_stores bounded; paid = rw step_stores paid }
 
   module _ (life : (copy : ℕ) → copy < layout.copies → 1 ≤ life_at s (pointers layout p s (8 * copy + changed_nibble c))) where
     -- the slots that change are those of the changed nibble
@@ -159,16 +159,16 @@ module _ {layout : Layout} {p : Places} {c : ℕ} {s : Chip} (one : 1 ≤ layout
         go (no n) = absurd (d (exact.held j (omega arith) ∙ step_stays c (omega arith) j n))
 
     calm : Calm layout p (slots layout) 0 (c + 1) s next
-    calm = calm-store layout p (c + 1) s exact.ready exact.sound alive
+    calm = calm_store layout p (c + 1) s exact.ready exact.sound alive
 
     -- the log over the codes of the two counts
     log_is : next.log ≡ changed_writes (slots layout) 0 (pointers layout p s) (slot_code c) (slot_code (c + 1))
-    log_is = calm.log ∙ writes-same (slots layout) 0 _ _ _ _ (slot_code (c + 1)) (λ j l u. (refl, exact.held j (omega arith)))
+    log_is = calm.log ∙ writes_same (slots layout) 0 _ _ _ _ (slot_code (c + 1)) (λ j l u. (refl, exact.held j (omega arith)))
 
     tally_is : (j : ℕ) → j < slots layout → asked_of (pointers layout p s j) next.log ≡ cond (eqb (j % 8) (changed_nibble c)) 1 0
     tally_is j l =
         ap (asked_of (pointers layout p s j)) log_is
-        ∙ tally-slot (pointers layout p s) (slot_code c) (slot_code (c + 1)) (slots layout) 0 j (omega arith) (omega arith) (λ i m u d. exact.sound.apart i j (omega arith) l d)
+        ∙ tally_slot (pointers layout p s) (slot_code c) (slot_code (c + 1)) (slots layout) 0 j (omega arith) (omega arith) (λ i m u d. exact.sound.apart i j (omega arith) l d)
         ∙ change_step c (omega arith) j
 
     others_are : (a : ℕ) → ((j : ℕ) → j < slots layout → pointers layout p s j ≡ a → ⊥) → asked_of a next.log ≡ 0
@@ -181,7 +181,7 @@ module _ {layout : Layout} {p : Places} {c : ℕ} {s : Chip} (one : 1 ≤ layout
           tried = rw step_stores calm.tried;
           map = rw step_stores calm.map;
           log = rw step_stores (log_is ∙ step_log c (omega arith) (pointers layout p s) layout.copies 0);
-          exact = rw step_stores (exact-stored exact.ready (c + 1) exact.marks exact.sound calm.done);
+          exact = rw step_stores (exact_stored exact.ready (c + 1) exact.marks exact.sound calm.done);
           tally = rw step_stores tally_is;
           others = rw step_stores others_are;
         }

@@ -39,7 +39,7 @@ use Rattle.counter.proofs.Takes.{InGap, AllTaken, TakeLaws, take_laws}
 use Rattle.counter.proofs.PointerRows.{mark_row}
 use Rattle.counter.proofs.Stores.{done_then}
 use Rattle.counter.proofs.WorkSteps.{opening_on}
-use Rattle.counter.proofs.Openings.{OfMark, whole_inside, zero_code, opening_laws, PointsLaws, points-laws, MapLaws, map_laws}
+use Rattle.counter.proofs.Openings.{OfMark, whole_inside, zero_code, opening_laws, PointsLaws, points_laws, MapLaws, map_laws}
 use Rattle.counter.proofs.Exact.{Exact, exact_opened}
 use Rattle.counter.proofs.DoorViews.{ready_unopened, open_first}
 use Rattle.promises.proofs.CalmTakes.{roomy_whole, Unwritten, CalmTake, calm_take}
@@ -127,7 +127,7 @@ module _ {layout : Layout} {p : Places} {s : Chip} (alive : UnmarkedAlive 1 layo
   pointing_calm = points_calm ready_taken taking.answer.addresses all.many live_taken
 
   points : PointsLaws layout p taking.answer.addresses 0 taking.after pointing
-  points = points-laws layout p taking.answer.addresses 0 taking.after ready_taken (omega (arith, all.many))
+  points = points_laws layout p taking.answer.addresses 0 taking.after ready_taken (omega (arith, all.many))
 
   maps : MapLaws layout p taking.answer.addresses taking.after mapping
   maps = map_laws ready_taken taking.answer.addresses all.many

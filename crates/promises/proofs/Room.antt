@@ -3,11 +3,11 @@
 --   all_asked                  what is done for such a slot: its own cell and every spare of its kind are asked
 --   Asked                     work that ends so
 --   all_asked_lem, asked_then, asked_giving  it holds of that slot, of work behind other work, and with another answer
---   spare-asked, asked-each   every spare is among those asked
---   slot-only                 storing a slot that ends in "no spare" names that slot, and comes to just that
+--   spare_asked, asked_each   every spare is among those asked
+--   slot_only                 storing a slot that ends in "no spare" names that slot, and comes to just that
 --   slot_roomless             storing a slot ends in "no spare" exactly where its cell and every spare of its kind
 --                             have life 0 and another byte
---   take-roomless             so does taking an address for a slot in a first opening, over the addresses taken so far
+--   take_roomless             so does taking an address for a slot in a first opening, over the addresses taken so far
 use Prim.Native.Nat.{ℕ, ◌+◌, ◌≤◌, ◌<◌}
 use mathlib.Core.Path.{◌≡◌, refl, sym, ap, ◌∙◌}
 use mathlib.Core.Bool.{Bool, true, false, true≢false}
@@ -39,8 +39,8 @@ use Rattle.counter.specs.Store.{store_slot, move_slot, put_pointer, try_spares}
 use Rattle.counter.proofs.Gaps.{Between, between_map, Spare, free_spare, spare_free, free_walked}
 use Rattle.counter.proofs.Ready.{pointers, Ready, ready_kept}
 use Rattle.counter.proofs.Pointers.{pointer_laws}
-use Rattle.counter.proofs.Tries.{asked_spares, Landing, Trying, Trying.missing, Trying.landing, try_laws, try-nowhere}
-use Rattle.counter.proofs.Moves.{gap_at, slot_held, slot-refused, move_missing, move_landing}
+use Rattle.counter.proofs.Tries.{asked_spares, Landing, Trying, Trying.missing, Trying.landing, try_laws, try_nowhere}
+use Rattle.counter.proofs.Moves.{gap_at, slot_held, slot_refused, move_missing, move_landing}
 
 -- every spare of slot k's kind refuses the byte b
 abbrev pub Spareless : Layout → Places → ℕ → ℕ → Chip → Type 0
@@ -91,21 +91,21 @@ module _ {layout : Layout} {p : Places} {k b : ℕ} where
   asked_giving y x = record { earlier = x.earlier; before = x.before; log = x.log; tried = x.tried; full = x.full }
 
 -- every spare that pointers leave for slot k, in the document's words, is asked where those that their gap leaves are
-pub spare-asked :
+pub spare_asked :
     {n : ℕ} {p : Places} {pointer : ℕ → ℕ} {g : Gap} (k a b : ℕ) → Between n p pointer g → Spare (kind_of k) n p pointer a
     → 1 ≤ asked_of a (asked_spares k g b)
-spare-asked {g = g} k a b between spare =
+spare_asked {g = g} k a b between spare =
     let j = free_walked (kind_of k) g a (spare_free between spare) in
     rw j.2 at (asks_each (spares_of (kind_of k) g) (way_of (kind_of k)) (next_of (kind_of k) g) b j.0 j.1)
 
 -- so work that ends so has asked every spare of the kind
-pub asked-each :
+pub asked_each :
     {A : Type 0} {layout : Layout} {p : Places} {k b : ℕ} {r : Run A} → Asked layout p k b r
     → (a : ℕ) → Spare (kind_of k) (slots layout) p (pointers layout p r.after) a → 1 ≤ asked_of a r.log
-asked-each {layout = layout} {p = p} {k = k} {b = b} {r = r} x a spare =
+asked_each {layout = layout} {p = p} {k = k} {b = b} {r = r} x a spare =
     let own = write (pointers layout p r.after k) b in
     let spares = asked_spares k (gap_at layout p r.after) b in
-    let h = spare-asked k a b (between_map layout p (pointers layout p r.after)) spare in
+    let h = spare_asked k a b (between_map layout p (pointers layout p r.after)) spare in
     let h₁ = asked_append a a x.earlier (own ∷ spares) in
     let h₂ = asked_append a a (own ∷ []) spares in
     rw x.log (omega arith)
@@ -151,30 +151,30 @@ module _ {layout : Layout} {p : Places} {s : Chip} (ready : Ready layout p s) (k
   put = put_laws (pointers layout p s k) b s ready.paired
 
   -- storing a slot that ends so names that slot, and has asked its own cell and every spare of its kind
-  pub slot-only :
+  pub slot_only :
       (j : ℕ) → (store_slot layout p k b s).answer ≡ Stopped (NoSpare j)
       → (j ≡ k) × (store_slot layout p k b s ≡ all_asked layout p k b s) × Full layout p k b s
-  slot-only j e = go (put_at (pointers layout p s k) b s).answer refl
+  slot_only j e = go (put_at (pointers layout p s k) b s).answer refl
     where
       go : (t : Bool) → (put_at (pointers layout p s k) b s).answer ≡ t → (j ≡ k) × (store_slot layout p k b s ≡ all_asked layout p k b s) × Full layout p k b s
       go true h = let q = ap (λ (r : Run Work). r.answer) (slot_held layout p k b s h) in absurd (true≢false cc)
       go false h =
-          let q = slot-refused layout p k b s ready.paired h in
+          let q = slot_refused layout p k b s ready.paired h in
           let m = move_only j (sym (ap (λ (r : Run Work). r.answer) q) ∙ e) in
           (m.0, rw (q, m.1, zero-add), record { cell = put.failed h; spares = m.2 })
 
   pub slot_roomless : ((store_slot layout p k b s).answer ≡ Stopped (NoSpare k)) ↔ Full layout p k b s
-  slot_roomless = (λ e. (slot-only k e).2, always)
+  slot_roomless = (λ e. (slot_only k e).2, always)
     where
       always : Full layout p k b s → (store_slot layout p k b s).answer ≡ Stopped (NoSpare k)
       always f =
           let failed = put.worn f.cell.worn ∙ ne_eqb _ b f.cell.other in
-          ap (λ (q : Run Work). q.answer) (slot-refused layout p k b s ready.paired failed) ∙ move_always f.spares
+          ap (λ (q : Run Work). q.answer) (slot_refused layout p k b s ready.paired failed) ∙ move_always f.spares
 
 -- no address is found for slot k exactly where every spare, given the pointers taken so far, refuses the code of 0
-pub take-roomless :
+pub take_roomless :
     {k : ℕ} {p : Places} {pointer : ℕ → ℕ} {g : Gap} (s : Chip) → Paired s → Between k p pointer g
     → ((try_spares k g (code_of 0) s).answer ≡ Nowhere) ↔ ((a : ℕ) → Spare (kind_of k) k p pointer a → Refuses a (code_of 0) s)
-take-roomless {k} {p} {pointer} {g} s paired between =
-    let both = try-nowhere k g (code_of 0) s paired in
+take_roomless {k} {p} {pointer} {g} s paired between =
+    let both = try_nowhere k g (code_of 0) s paired in
     (λ e a f. both.0 e a (spare_free between f), λ f. both.1 (λ a free. f a (free_spare between free)))

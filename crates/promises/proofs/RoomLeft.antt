@@ -14,7 +14,7 @@ use Rattle.counter.specs.Layout.{slots}
 use Rattle.counter.specs.Slots.{kind_of}
 use Rattle.promises.specs.Runs.{area_cells}
 use Rattle.counter.proofs.SoundPointers.{Sound}
-use Rattle.counter.proofs.Gaps.{Between, between_map, between-ordered}
+use Rattle.counter.proofs.Gaps.{Between, between_map, between_ordered}
 use Rattle.counter.proofs.Ready.{pointers, start_fits}
 use Rattle.counter.proofs.Tries.{room}
 use Rattle.counter.proofs.Moves.{room_of}
@@ -50,7 +50,7 @@ module _ {n : ℕ} {p : Places} {pointer : ℕ → ℕ} {g : Gap} (fits : p.star
       let all = total_least n below above outside in
       let low = lies_most n pointer sound.apart p.start (g.high - p.start) in
       let high = lies_most n pointer sound.apart g.low (p.end + 1 - g.low) in
-      let ordered = between-ordered fits sound between in
+      let ordered = between_ordered fits sound between in
       let start = between.start in
       let end = between.end in
       omega arith

@@ -28,13 +28,13 @@ use Rattle.counter.specs.Store.{slot_code, store}
 use Rattle.counter.specs.Doors.{last_count, chip_verdict, open_run, step_run, open_of, step_of}
 use Rattle.counter.proofs.Ready.{ready_kept}
 use Rattle.counter.proofs.Moves.{Ended, Ended.done, Ended.roomless, Ended.unmapped}
-use Rattle.counter.proofs.Stores.{StoreLaws, store-laws, done_then, stopped_then}
+use Rattle.counter.proofs.Stores.{StoreLaws, store_laws, done_then, stopped_then}
 use Rattle.counter.proofs.DoorAnswers.{code_eight, spareless_code, spareless_place, open_is, step_is}
 use Rattle.counter.proofs.DoorViews.{unopened, unopened_ready, open_first, open_again, settling_refused, settling_good, step_refused, step_last, step_on}
-use Rattle.counter.proofs.GoodVerdicts.{VerdictGood, verdict-good, verdict_reads}
+use Rattle.counter.proofs.GoodVerdicts.{VerdictGood, verdict_good, verdict_reads}
 use Rattle.promises.proofs.Room.{Asked, asked_then, asked_giving}
 use Rattle.promises.proofs.RoomlessStores.{StoreFull, store_roomless, store_tried}
-use Rattle.promises.proofs.RoomlessOpenings.{taken_to, OpeningFull, opening_roomless, SparesAsked, spares-giving, opening_tried}
+use Rattle.promises.proofs.RoomlessOpenings.{taken_to, OpeningFull, opening_roomless, SparesAsked, spares_giving, opening_tried}
 
 -- refused 8, and the slot named
 abbrev pub Roomless : ℕ → Outcome → Type 0
@@ -73,7 +73,7 @@ module _ {layout : Layout} {p : Places} {c : ℕ} {s : Chip} (v : VerdictGood la
   stepped = store layout p (c + 1)
 
   laws : StoreLaws layout p (slots layout) 0 c s settled
-  laws = store-laws layout p c s v.ready v.sound
+  laws = store_laws layout p c s v.ready v.sound
 
   once : (settled.answer ≡ Stopped (NoSpare k)) ↔ StoreFull layout p c k s
   once = store_roomless layout p c s k v.ready v.sound
@@ -118,12 +118,12 @@ module _ (layout : Layout) (p : Places) (s : Chip) (k : ℕ) where
       counted (yes l) = let h = sym (ap (λ (r : Run Verdict). r.answer) (step_last layout p s c lag q l)) ∙ e in absurd (true≢false cc)
       counted (no n) =
           let stops = ending_stopped k (c + 1) lag _ (sym (ap (λ (r : Run Verdict). r.answer) (step_on layout p s c lag q n)) ∙ e) in
-          record { count = c; lag = lag; reads = q; more = n; full = (two_roomless (verdict-good layout p s q).1 k).0 stops }
+          record { count = c; lag = lag; reads = q; more = n; full = (two_roomless (verdict_good layout p s q).1 k).0 stops }
 
   step_ends : StepFull layout p s k → (step_run layout p s).answer ≡ Refused (NoSpare k)
   step_ends f =
       ap (λ (r : Run Verdict). r.answer) (step_on layout p s f.count f.lag f.reads f.more)
-      ∙ ap (ending (Good (f.count + 1) f.lag)) ((two_roomless (verdict-good layout p s f.reads).1 k).1 f.full)
+      ∙ ap (ending (Good (f.count + 1) f.lag)) ((two_roomless (verdict_good layout p s f.reads).1 k).1 f.full)
 
   pub step_roomless : Roomless k (step_of layout p s) ↔ StepFull layout p s k
   step_roomless =
@@ -135,7 +135,7 @@ module _ (layout : Layout) (p : Places) (s : Chip) (k : ℕ) where
   -- what such a step asks
   step_asks : StepFull layout p s k → StepAsked layout p s k
   step_asks f =
-      let two = two_tried (verdict-good layout p s f.reads).1 k f.full in
+      let two = two_tried (verdict_good layout p s f.reads).1 k f.full in
       record {
         full = f;
         stored = two.0;
@@ -175,7 +175,7 @@ module _ (layout : Layout) (p : Places) (s : Chip) (k : ℕ) where
           absurd (true≢false (verdict_reads {why = NoSpare k} layout p s (h ∙ sym (ap (λ (r : Run Verdict). r.answer) run) ∙ e)))
       read (Good c lag) h =
           let run = open_again layout p s q ∙ settling_good layout p s _ c lag h in
-          let v = (verdict-good layout p s h).1 in
+          let v = (verdict_good layout p s h).1 in
           let stops = ending_stopped k c lag _ (sym (ap (λ (r : Run Verdict). r.answer) run) ∙ e) in
           again q c lag h ((store_roomless layout p c s k v.ready v.sound).0 stops)
 
@@ -183,7 +183,7 @@ module _ (layout : Layout) (p : Places) (s : Chip) (k : ℕ) where
   open_ends (first q f) =
       ap (λ (r : Run Verdict). r.answer) (open_first layout p s q) ∙ ap (ending (Good 0 (pos 0))) ((opening_roomless (unopened_ready layout p s q) k).1 f)
   open_ends (again q c lag h f) =
-      let v = (verdict-good layout p s h).1 in
+      let v = (verdict_good layout p s h).1 in
       ap (λ (r : Run Verdict). r.answer) (open_again layout p s q ∙ settling_good layout p s _ c lag h)
       ∙ ap (ending (Good c lag)) ((store_roomless layout p c s k v.ready v.sound).1 f)
 
@@ -198,9 +198,9 @@ module _ (layout : Layout) (p : Places) (s : Chip) (k : ℕ) where
   open_asks : OpenFull layout p s k → OpenAsked layout p s k
   open_asks (first q f) =
       let ready = unopened_ready layout p s q in
-      first q f (rw (open_first layout p s q) (spares-giving _ _ (opening_tried ready k ((opening_roomless ready k).1 f))))
+      first q f (rw (open_first layout p s q) (spares_giving _ _ (opening_tried ready k ((opening_roomless ready k).1 f))))
   open_asks (again q c lag h f) =
-      let v = (verdict-good layout p s h).1 in
+      let v = (verdict_good layout p s h).1 in
       let stops = (store_roomless layout p c s k v.ready v.sound).1 f in
       again q c lag h f (rw (open_again layout p s q ∙ settling_good layout p s _ c lag h) (asked_giving _ (store_tried layout p c s k v.ready v.sound stops)))
 

@@ -3,8 +3,8 @@
 --   taken_to, Bare             the addresses taken so far, as pointers; no spare that pointers leave takes the code of 0
 --   OpeningFull, opening_roomless
 --   SparesAsked               work that ends in asking every spare that pointers leave
---   spares-giving             the same with another answer
---   spares-each               every such spare was asked
+--   spares_giving             the same with another answer
+--   spares_each               every such spare was asked
 --   opening_tried             a first opening that is stopped so ends in asking those that the addresses taken so far leave
 use Prim.Native.Nat.{ℕ, zero, suc, ◌+◌, ◌≤◌, ◌<◌}
 use mathlib.Core.Path.{◌≡◌, sym, ap, ap₂, ◌∙◌}
@@ -34,14 +34,14 @@ use Rattle.counter.specs.Spares.{gap, whole_area, narrow, gap_to}
 use Rattle.counter.specs.Verdict.{◌and_then◌}
 use Rattle.counter.specs.Store.{try_spares}
 use Rattle.counter.specs.Opening.{Taken, taken, take_from, put_pointers, put_mark, first_opening}
-use Rattle.counter.proofs.Gaps.{Between, between_none, between_more, between_gap, between-unique, Spare, spare_free}
+use Rattle.counter.proofs.Gaps.{Between, between_none, between_more, between_gap, between_unique, Spare, spare_free}
 use Rattle.counter.proofs.Ready.{Ready, ready_kept}
 use Rattle.counter.proofs.Tries.{asked_spares, Missing, Landing, Trying, Trying.missing, Trying.landing, try_laws}
 use Rattle.counter.proofs.Moves.{not_done}
 use Rattle.counter.proofs.Takes.{TakeLaws, take_landing, take_missing, take_laws}
 use Rattle.counter.proofs.WorkSteps.{take_none, opening_on, opening_ends}
 use Rattle.counter.proofs.Openings.{MapEnded, MapEnded.put, MapEnded.failed, map_laws}
-use Rattle.promises.proofs.Room.{spare-asked, take-roomless}
+use Rattle.promises.proofs.Room.{spare_asked, take_roomless}
 
 -- the addresses that the slots before k take in a first opening, as pointers
 abbrev pub taken_to : Places → Chip → ℕ → ℕ → ℕ
@@ -66,17 +66,17 @@ pub record SparesAsked {A : Type 0} (p : Places) (k : ℕ) (pointer : ℕ → �
   pub bare : Bare k p pointer r.after
 
 -- the same work, with another answer and count of spares
-pub spares-giving :
+pub spares_giving :
     {A B : Type 0} {p : Places} {k : ℕ} {pointer : ℕ → ℕ} {r : Run A} (y : B) (tried : ℕ) → SparesAsked p k pointer r
     → SparesAsked p k pointer (run y r.log tried r.after)
-spares-giving y tried x = record { earlier = x.earlier; log = x.log; bare = x.bare }
+spares_giving y tried x = record { earlier = x.earlier; log = x.log; bare = x.bare }
 
 -- so every such spare was asked
-pub spares-each :
+pub spares_each :
     {A : Type 0} {p : Places} {k : ℕ} {pointer : ℕ → ℕ} {r : Run A} → SparesAsked p k pointer r
     → (a : ℕ) → Spare (kind_of k) k p pointer a → 1 ≤ asked_of a r.log
-spares-each {p = p} {k = k} {pointer = pointer} x a spare =
-    let h = spare-asked k a (code_of 0) (between_gap k p pointer) spare in
+spares_each {p = p} {k = k} {pointer = pointer} x a spare =
+    let h = spare_asked k a (code_of 0) (between_gap k p pointer) spare in
     let h₁ = asked_append a a x.earlier (asked_spares k (gap_to k p pointer) (code_of 0)) in
     rw x.log (omega arith)
 
@@ -90,18 +90,18 @@ spares_then r x = record { earlier = r.log ++ x.earlier; log = rw x.log (sym (ap
 abbrev Listed : ℕ → List ℕ → (ℕ → ℕ) → Type 0
 Listed k addresses pointer = (j : ℕ) → j < length addresses → pointer (k + j) ≡ get_or addresses j 0
 
-take-always :
+take_always :
     (i m k : ℕ) (g : Gap) (s : Chip) (p : Places) (pointer : ℕ → ℕ) → i < m → Paired s
     → (take_from i k g s).answer.work ≡ Done
     → Listed k (take_from i k g s).answer.addresses pointer
     → Between k p pointer g
     → Bare (k + i) p pointer (take_from i k g s).after
     → (take_from m k g s).answer.work ≡ Stopped (NoSpare (k + i))
-take-always i zero k g s p pointer l paired e at between bare = absurd (omega arith)
-take-always zero (suc m) k g s p pointer l paired e at between bare =
+take_always i zero k g s p pointer l paired e at between bare = absurd (omega arith)
+take_always zero (suc m) k g s p pointer l paired e at between bare =
     let here : Bare k p pointer s = rw (take_none k g s, add-zero) at bare in
-    ap (λ (r : Run Taken). r.answer.work) (take_missing m k g s ((take-roomless s paired between).1 here)) ∙ ap (λ (j : ℕ). Stopped (NoSpare j)) (sym (add-zero k))
-take-always (suc i) (suc m) k g s p pointer l paired e at between bare = go (take-always i m (k + 1)) (try_laws k g (code_of 0) s paired).trying
+    ap (λ (r : Run Taken). r.answer.work) (take_missing m k g s ((take_roomless s paired between).1 here)) ∙ ap (λ (j : ℕ). Stopped (NoSpare j)) (sym (add-zero k))
+take_always (suc i) (suc m) k g s p pointer l paired e at between bare = go (take_always i m (k + 1)) (try_laws k g (code_of 0) s paired).trying
   where
     Later : Type 0
     Later =
@@ -129,11 +129,11 @@ take-always (suc i) (suc m) k g s p pointer l paired e at between bare = go (tak
         ∙ ap (λ (j : ℕ). Stopped (NoSpare j)) moved
 
 -- spares that are tried and found to miss were asked, and that is the end
-spares-missed :
+spares_missed :
     {p : Places} {k : ℕ} {pointer : ℕ → ℕ} {g : Gap} {s : Chip} → Between k p pointer g → Missing k g (code_of 0) s
     → SparesAsked p k pointer (try_spares k g (code_of 0) s then still (taken (Stopped (NoSpare k)) []) (try_spares k g (code_of 0) s).after)
-spares-missed {p} {k} {pointer} {g} {s} between m =
-    let same = between-unique between (between_gap k p pointer) in
+spares_missed {p} {k} {pointer} {g} {s} between m =
+    let same = between_unique between (between_gap k p pointer) in
     let left : g ≡ gap_to k p pointer = ap₂ gap same.0 same.1 in
     record {
       earlier = [];
@@ -173,7 +173,7 @@ take_only (suc n) k g s j paired e = go (take_only n (k + 1)) (try_laws k g (cod
           after = ap (λ (r : Run Taken). r.after) all ∙ x.after ∙ sym (ap (λ (r : Run Taken). r.after) early);
           asked = rw (early, all)
               (λ p pointer at between.
-              spares_then (try_spares k g (code_of 0) s) (spares-giving _ _ (x.asked p pointer
+              spares_then (try_spares k g (code_of 0) s) (spares_giving _ _ (x.asked p pointer
               (λ i l. let q : k + 1 + i ≡ k + suc i = omega arith in rw q (at (suc i) (omega arith)))
               (rw add-one (between_more between t.place (rw add-zero at (at 0 (omega arith))))))));
         }
@@ -189,7 +189,7 @@ take_only (suc n) k g s j paired e = go (take_only n (k + 1)) (try_laws k g (cod
           inside = omega arith;
           before = ap (λ (r : Run Taken). r.answer.work) none;
           after = ap (λ (r : Run Taken). r.after) all ∙ t.same ∙ sym (ap (λ (r : Run Taken). r.after) none);
-          asked = rw (none, same, all) (λ p pointer at between. spares-missed between t);
+          asked = rw (none, same, all) (λ p pointer at between. spares_missed between t);
         }
     go later (landing t) =
         there t (later (narrow (kind_of k) t.place g) (try_spares k g (code_of 0) s).after j (kept_paired t.kept paired) (sym (ap (λ (r : Run Taken). r.answer.work) (take_landing n k g s t.place t.here)) ∙ e))
@@ -244,7 +244,7 @@ module _ {layout : Layout} {p : Places} {s : Chip} (ready : Ready layout p s) wh
         always f =
             let same = zero-add k in
             let stops =
-            take-always k (slots layout) 0 (whole_area p) s p (taken_to p s k) f.inside ready.paired f.before (λ j l. ap (taken_to p s k) (zero-add j)) (between_none p (taken_to p s k)) (rw same f.full)
+            take_always k (slots layout) 0 (whole_area p) s p (taken_to p s k) f.inside ready.paired f.before (λ j l. ap (taken_to p s k) (zero-add j)) (between_none p (taken_to p s k)) (rw same f.full)
             ∙ ap (λ (j : ℕ). Stopped (NoSpare j)) same in
             ap (λ (r : Run Work). r.answer) (opening_ends layout p s stops) ∙ stops
 
@@ -253,4 +253,4 @@ module _ {layout : Layout} {p : Places} {s : Chip} (ready : Ready layout p s) wh
     opening_tried e =
         let x = opening_stop e in
         let same : x.many ≡ k = sym (x.slot ∙ zero-add x.many) in
-        rw (opening_ends layout p s (opening_taking k e)) (spares-giving _ _ (rw same at (stop_asked x)))
+        rw (opening_ends layout p s (opening_taking k e)) (spares_giving _ _ (rw same at (stop_asked x)))

@@ -24,7 +24,7 @@ use Rattle.counter.proofs.Ready.{pointers, data_of, Ready, ready_kept}
 use Rattle.counter.proofs.Moves.{change, not_done, Ended, Ended.done, Ended.roomless, Ended.unmapped, SlotLaws, slot_laws}
 use Rattle.counter.proofs.Stores.{done_then, stopped_then}
 use Rattle.counter.proofs.WorkSteps.{store_all, store_none, store_next}
-use Rattle.promises.proofs.Room.{Full, Asked, all_asked_lem, asked_then, slot-only, slot_roomless}
+use Rattle.promises.proofs.Room.{Full, Asked, all_asked_lem, asked_then, slot_only, slot_roomless}
 
 -- the slots before k were stored, and then the cell of slot k and every spare of its kind refuse its code of c
 pub record StoreFull (layout : Layout) (p : Places) (c k : ℕ) (s : Chip) : Type 0 where
@@ -33,18 +33,18 @@ pub record StoreFull (layout : Layout) (p : Places) (c k : ℕ) (s : Chip) : Typ
   pub full : Full layout p k (slot_code c k) (store_from k 0 layout p c s).after
 
 module _ (layout : Layout) (p : Places) (c : ℕ) where
-  from-always :
+  from_always :
       (i m k : ℕ) (s : Chip) → i < m → k + m ≤ slots layout → Ready layout p s
       → Sound (slots layout) p (pointers layout p s)
       → (store_from i k layout p c s).answer ≡ Done
       → Full layout p (k + i) (slot_code c (k + i)) (store_from i k layout p c s).after
       → (store_from m k layout p c s).answer ≡ Stopped (NoSpare (k + i))
-  from-always i zero k s l fits ready sound e full = absurd (omega arith)
-  from-always zero (suc m) k s l fits ready sound e full =
+  from_always i zero k s l fits ready sound e full = absurd (omega arith)
+  from_always zero (suc m) k s l fits ready sound e full =
       let here : Full layout p k (slot_code c k) s = rw (store_none layout p c k s, add-zero) at full in
       let stops = (slot_roomless ready k (omega arith) (slot_code c k)).1 here in
       rw (store_next layout p c m k s, add-zero) (ap (λ (w : Run Work). w.answer) (stopped_then (store_slot layout p k (slot_code c k) s) (store_from m (k + 1) layout p c) _ stops) ∙ stops)
-  from-always (suc i) (suc m) k s l fits ready sound e full = go (from-always i m (k + 1)) slot.ended
+  from_always (suc i) (suc m) k s l fits ready sound e full = go (from_always i m (k + 1)) slot.ended
     where
       r : Run Work
       r = store_slot layout p k (slot_code c k) s
@@ -85,12 +85,12 @@ module _ (layout : Layout) (p : Places) (c : ℕ) where
     after : (store_from n k layout p c s).after ≡ (store_from many k layout p c s).after
     asked : Asked layout p j (slot_code c j) (store_from n k layout p c s)
 
-  from-only :
+  from_only :
       (n k : ℕ) (s : Chip) (j : ℕ) → k + n ≤ slots layout → Ready layout p s
       → Sound (slots layout) p (pointers layout p s)
       → (store_from n k layout p c s).answer ≡ Stopped (NoSpare j) → Stop n k j s
-  from-only zero k s j fits ready sound e = not_done (sym e ∙ ap (λ (w : Run Work). w.answer) (store_none layout p c k s))
-  from-only (suc n) k s j fits ready sound e = go (from-only n (k + 1)) slot.ended
+  from_only zero k s j fits ready sound e = not_done (sym e ∙ ap (λ (w : Run Work). w.answer) (store_none layout p c k s))
+  from_only (suc n) k s j fits ready sound e = go (from_only n (k + 1)) slot.ended
     where
       r : Run Work
       r = store_slot layout p k (slot_code c k) s
@@ -113,7 +113,7 @@ module _ (layout : Layout) (p : Places) (c : ℕ) where
       -- it ended at this slot
       here : r.answer ≡ Stopped (NoSpare j) → Stop (suc n) k j s
       here q =
-          let x = slot-only ready k (omega arith) (slot_code c k) j q in
+          let x = slot_only ready k (omega arith) (slot_code c k) j q in
           let none = store_none layout p c k s in
           let all = store_next layout p c n k s ∙ stopped_then r rest _ q ∙ x.1 in
           record {
@@ -151,7 +151,7 @@ module _ (layout : Layout) (p : Places) (c : ℕ) where
   module _ (s : Chip) (k : ℕ) (ready : Ready layout p s) (sound : Sound (slots layout) p (pointers layout p s)) where
     -- where it ended
     store_stop : (store layout p c s).answer ≡ Stopped (NoSpare k) → Stop (slots layout) 0 k s
-    store_stop e = from-only (slots layout) 0 s k (omega arith) ready sound (rw (store_all layout p c s) at e)
+    store_stop e = from_only (slots layout) 0 s k (omega arith) ready sound (rw (store_all layout p c s) at e)
 
     pub store_roomless : ((store layout p c s).answer ≡ Stopped (NoSpare k)) ↔ StoreFull layout p c k s
     store_roomless = (only, always)
@@ -165,7 +165,7 @@ module _ (layout : Layout) (p : Places) (c : ℕ) where
         always : StoreFull layout p c k s → (store layout p c s).answer ≡ Stopped (NoSpare k)
         always f =
             let same = zero-add k in
-            rw (store_all layout p c s) (from-always k (slots layout) 0 s f.inside (omega arith) ready sound f.before (rw same f.full) ∙ ap (λ (j : ℕ). Stopped (NoSpare j)) same)
+            rw (store_all layout p c s) (from_always k (slots layout) 0 s f.inside (omega arith) ready sound f.before (rw same f.full) ∙ ap (λ (j : ℕ). Stopped (NoSpare j)) same)
 
     -- a store that is stopped so ends in asking the slot's own cell and every spare of its kind for its code of c
     pub store_tried : (store layout p c s).answer ≡ Stopped (NoSpare k) → Asked layout p k (slot_code c k) (store layout p c s)

@@ -1,6 +1,6 @@
 -- The data writes of steps up to and including the first refused one, whatever the lives are.
 --   Bounded, steps_bound      they are no more than one a copy and step, and the room
---   run-bound                 behind an opening that answered: no more than the bound of condition 3
+--   run_bound                 behind an opening that answered: no more than the bound of condition 3
 use Prim.Native.Nat.{ℕ, zero, suc, ◌+◌, ◌*◌, ◌^◌, ◌≤◌, ◌<◌}
 use mathlib.Core.Path.{◌≡◌, refl, sym, ap, ◌∙◌}
 use native.Mathlib.Nat.{mul-suc}
@@ -22,7 +22,7 @@ use Rattle.counter.proofs.Exact.{Exact, exact_verdict}
 use Rattle.counter.proofs.GoodVerdicts.{not_good}
 use Rattle.counter.proofs.DoorViews.{step_last}
 use Rattle.promises.proofs.DoorRuns.{open_laws}
-use Rattle.promises.proofs.TurnsAndCells.{run-exact, step_good}
+use Rattle.promises.proofs.TurnsAndCells.{run_exact, step_good}
 use Rattle.promises.proofs.ExactSteps.{StepBound, step_bound}
 use Rattle.promises.proofs.RunSteps.{steps_next}
 use Rattle.promises.proofs.RoomLeft.{exact_room}
@@ -64,12 +64,12 @@ module _ {layout : Layout} {p : Places} (one : 1 ≤ layout.copies) where
           let h' = rest (good.count + 1) (omega arith) good.exact in
           rw (steps_next n layout p s e, asked_append) (omega (arith, mul-suc layout.copies (length (steps_up_to n layout p next).answer)))
 
-pub run-bound :
+pub run_bound :
     (n : ℕ) (layout : Layout) (p : Places) (s : Chip) {c : ℕ} {lag : ℤ} → 1 ≤ layout.copies → (open_run layout p s).answer ≡ Good c lag
     → data_writes p (steps_after n layout p s).log ≤ data_bound layout (length (steps_after n layout p s).answer) p
 unfolding data_bound
-run-bound n layout p s one e =
-    let exact = run-exact (open_run layout p s) (open_laws layout p s).comes e in
+run_bound n layout p s one e =
+    let exact = run_exact (open_run layout p s) (open_laws layout p s).comes e in
     let h = steps_bound one n exact.0 exact.1 in
     let h' = exact_room exact.1 in
     omega arith

@@ -52,13 +52,13 @@ steps_made (suc n) layout p s = go r.answer refl (steps_made n layout p r.after)
     go (Refused why) e made = refused (refused_code r e)
 
 -- a step and the others, or that step alone
-onward-within :
+onward_within :
     {Place : ℕ → Type 0} {s : Chip} (v : Verdict) {r : Run Verdict} {rest : Run (List Answer)}
     → Within Place s r → Within Place r.after rest → Within Place s (onward v r rest)
-onward-within (Good c lag) w w' = within_giving _ (within_then w w')
-onward-within (Refused why) w w' = within_giving _ w
+onward_within (Good c lag) w w' = within_giving _ (within_then w w')
+onward_within (Refused why) w w' = within_giving _ w
 
 pub steps_within : (n : ℕ) (layout : Layout) (p : Places) (s : Chip) → Within (Own layout p) s (steps_up_to n layout p s)
 unfolding steps_up_to
 steps_within zero layout p s = within_still [] s
-steps_within (suc n) layout p s = onward-within (step_run layout p s).answer (step_laws layout p s).within (steps_within n layout p (step_run layout p s).after)
+steps_within (suc n) layout p s = onward_within (step_run layout p s).answer (step_laws layout p s).within (steps_within n layout p (step_run layout p s).after)

@@ -4,7 +4,7 @@
 --   sharp                     two runs on the smallest chip. The first meets the bound on data writes. In the other n good
 --                             writes in each cell, n being 1, are not enough for n steps; and its refused step has written,
 --                             so that the bound with n counting good steps alone would be false
---   sharp-cut                 one good write, in place of two, in a cell that a clean step writes is not enough: what a cut leaves
+--   sharp_cut                 one good write, in place of two, in a cell that a clean step writes is not enough: what a cut leaves
 --                             there still reads as the count, but open refuses it
 use Prim.Native.Nat.{ℕ, ◌+◌}
 use mathlib.Core.Path.{◌≡◌, refl}
@@ -80,10 +80,10 @@ worn = open_of two tight (smallest 2 9)
 abbrev torn : Chip
 torn = (trial_step_of two tight 0 0x00 worn.leaves).leaves
 
-pub sharp-cut :
+pub sharp_cut :
     (worn.says.code ≡ 0)
     × (life_at worn.leaves (pointers two tight worn.leaves (changed_slot 0 0)) ≡ 1)
     × (read_of two tight torn.cells ≡ answer 0 0 (pos 0) 0 0 0)
     × ((open_of two tight torn).says.code ≡ 8)
 unfolding codes code_of distance ones near_from near reading_of twofold is_lost nibble_read bits gray_of halves_of count_of nibble_of word_of write_at asked_in put_at next try_at walk put_row kind_of every some lowest length_good places_good marked offset_in offset_of pointer_at pointer_of pointer_bytes reachable in_order sound whole_area narrow gap_to gap_of way_of next_of spares_of answer_of first_read nibble_in count_in close decide weigh examine verdict_of slot_code mapped put_pointer try_spares move_to move_slot store_slot store_from store take_from put_pointers put_mark first_opening lives_good chip_verdict open_run step_run steps_up_to data_bound fitted tear open_of trial_step_of read_of changed_bit count_trailing_zeros
-sharp-cut = (refl, refl, refl, refl)
+sharp_cut = (refl, refl, refl, refl)

@@ -27,18 +27,18 @@ module _ (c : ℕ) (small : c + 1 < 2 ^ 32) where
       go (yes e) = rw (ne_eqb _ _ (step_changed c small k e), eq-eqb _ _ e)
       go (no n) = rw (eq-eqb _ _ (step_stays c small k n), ne_eqb _ _ n)
 
-  change-is :
+  change_is :
       (k : ℕ) → Dec (k % 8 ≡ changed_nibble c)
       → change (slot_code c k) (slot_code (c + 1) k) + (k + 7 - changed_nibble c) / 8 ≡ (k + 1 + 7 - changed_nibble c) / 8
-  change-is k (yes e) = let h = step_nibble_small c small in rw (ne_eqb _ _ (step_changed c small k e)) (omega arith)
-  change-is k (no n) = let h = step_nibble_small c small in rw (eq-eqb _ _ (step_stays c small k n)) (omega arith)
+  change_is k (yes e) = let h = step_nibble_small c small in rw (ne_eqb _ _ (step_changed c small k e)) (omega arith)
+  change_is k (no n) = let h = step_nibble_small c small in rw (eq-eqb _ _ (step_stays c small k n)) (omega arith)
 
   -- the changes among the n slots from k on are the numbers of the changed nibble among them
   changes_are : (n k : ℕ) → changes n k (slot_code c) (slot_code (c + 1)) + (k + 7 - changed_nibble c) / 8 ≡ (k + n + 7 - changed_nibble c) / 8
   changes_are zero k = rw (changes_none, zero-add, add-zero)
   changes_are (suc n) k =
       let h = changes_are n (k + 1) in
-      let h' = change-is k (ℕ_discrete (k % 8) (changed_nibble c)) in
+      let h' = change_is k (ℕ_discrete (k % 8) (changed_nibble c)) in
       let e : k + suc n ≡ k + 1 + n = omega arith in
       rw (e, changes_next) (omega arith)
 

@@ -329,16 +329,16 @@ module _ {p : Places} {c : ℕ} {s : Chip} (clean : Clean two p c s) where
 
     survives : (i : ℕ) → i < 2 → Torn two p c i b s t → Told → Survives p c b t
     survives i l torn (counted d lag either another e) =
-        rw-read (reads_good e) either another (torn_reopens clean i b l t torn d either e)
+        rw_read (reads_good e) either another (torn_reopens clean i b l t torn d either e)
       where
         counts : (d ≡ c) ⊎ (d ≡ c + 1) → ReadsCount c (answer 0 d lag 0 0 0) ⊎ (ReadsCount (c + 1) (answer 0 d lag 0 0 0) ⊎ ReadsApart (answer 0 d lag 0 0 0))
         counts (inl e) = inl (refl, e)
         counts (inr e) = inr (inl (refl, e))
 
-        rw-read :
+        rw_read :
             read_of two p t.cells ≡ answer 0 d lag 0 0 0 → (d ≡ c) ⊎ (d ≡ c + 1) → (ReadsOther c b → ⊥) → Reopens two p d lag t
             → Survives p c b t
-        rw-read e either another opens =
+        rw_read e either another opens =
             record {
               reads = rw e (counts either);
               apart = (rw e (λ six. absurd (omega arith)), λ other. absurd (another other));

@@ -26,10 +26,10 @@ use Rattle.counter.specs.Verdict.{outcome, outcome_of, answer, ◌ending_in◌}
 use Rattle.counter.specs.Store.{store}
 use Rattle.counter.specs.Doors.{last_count, chip_verdict, open_run, step_run, open_of, step_of}
 use Rattle.counter.specs.Trials.{cut_outcome, trial_open_of, trial_step_of}
-use Rattle.counter.proofs.Stores.{store-laws, done_then}
+use Rattle.counter.proofs.Stores.{store_laws, done_then}
 use Rattle.counter.proofs.Behind.{starts_and}
-use Rattle.counter.proofs.Exact.{Exact, exact-stored}
-use Rattle.counter.proofs.GoodVerdicts.{verdict-good}
+use Rattle.counter.proofs.Exact.{Exact, exact_stored}
+use Rattle.counter.proofs.GoodVerdicts.{verdict_good}
 use Rattle.counter.proofs.DoorAnswers.{reading_code, good_says, spareless_code, mapless_code, open_is, step_is, trial_open_is, trial_step_is}
 use Rattle.counter.proofs.DoorViews.{cut_steady, step_on}
 use Rattle.promises.proofs.DoorRuns.{Comes, Comes.untouched, Comes.spareless, Comes.mapless, Comes.good, open_laws, step_laws}
@@ -63,9 +63,9 @@ module _ (layout : Layout) (p : Places) (power torn : ℕ) (s : Chip) where
         → Exact layout p c settling.after
         × (cut power torn (step_run layout p s) s ≡ later (length settling.log) settling.tried (cut (power - length settling.log) torn (store layout p (c + 1) settling.after ending_in Good (c + 1) lag) settling.after))
     step_second done few =
-        let good = (verdict-good layout p s reads).1 in
-        let laws = store-laws layout p c s good.ready good.sound in (
-          exact-stored good.ready c good.marks good.sound done,
+        let good = (verdict_good layout p s reads).1 in
+        let laws = store_laws layout p c s good.ready good.sound in (
+          exact_stored good.ready c good.marks good.sound done,
           rw (step_on layout p s c lag reads below, done_then settling (store layout p (c + 1)) done)
               (cut_then power torn settling s (store layout p (c + 1) settling.after ending_in Good (c + 1) lag) few laws.within.logged),
         )

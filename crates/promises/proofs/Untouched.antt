@@ -1,5 +1,5 @@
 -- Refusals leave everything as it was, but for 8 and 9 (document 01, the table of refusals; condition 1).
---   open-untouched, step-untouched
+--   open_untouched, step_untouched
 -- Read and map part take the cells and give an answer: that they write nothing is their type.
 use mathlib.Core.Path.{◌≡◌, ap}
 use Rattle.cells.specs.Chip.{Chip}
@@ -14,22 +14,22 @@ use Rattle.counter.proofs.DoorAnswers.{good_says, spareless_code, mapless_code, 
 use Rattle.promises.proofs.DoorRuns.{Comes, Comes.untouched, Comes.spareless, Comes.mapless, Comes.good, open_laws, step_laws}
 
 -- a call that is neither good nor stopped while it stored
-run-untouched :
+run_untouched :
     {layout : Layout} {p : Places} {s : Chip} (r : Run Verdict) → Comes layout p s r
     → ((outcome_of r).says.code ≡ 0 → ⊥) → ((outcome_of r).says.code ≡ 8 → ⊥) → ((outcome_of r).says.code ≡ 9 → ⊥)
     → r.after ≡ s
-run-untouched r (untouched why reads e) zero eight nine = ap (λ (q : Run Verdict). q.after) e
-run-untouched r (spareless k e) zero eight nine = absurd (eight (spareless_code r e))
-run-untouched r (mapless a e) zero eight nine = absurd (nine (mapless_code r e))
-run-untouched r (good c lag e small exact) zero eight nine = absurd (zero (ap (λ (a : Answer). a.code) (good_says r e)))
+run_untouched r (untouched why reads e) zero eight nine = ap (λ (q : Run Verdict). q.after) e
+run_untouched r (spareless k e) zero eight nine = absurd (eight (spareless_code r e))
+run_untouched r (mapless a e) zero eight nine = absurd (nine (mapless_code r e))
+run_untouched r (good c lag e small exact) zero eight nine = absurd (zero (ap (λ (a : Answer). a.code) (good_says r e)))
 
 module _ (layout : Layout) (p : Places) (s : Chip) where
-  pub open-untouched :
+  pub open_untouched :
       ((open_of layout p s).says.code ≡ 0 → ⊥) → ((open_of layout p s).says.code ≡ 8 → ⊥)
       → ((open_of layout p s).says.code ≡ 9 → ⊥) → (open_of layout p s).leaves ≡ s
-  open-untouched = rw (open_is layout p s) (run-untouched (open_run layout p s) (open_laws layout p s).comes)
+  open_untouched = rw (open_is layout p s) (run_untouched (open_run layout p s) (open_laws layout p s).comes)
 
-  pub step-untouched :
+  pub step_untouched :
       ((step_of layout p s).says.code ≡ 0 → ⊥) → ((step_of layout p s).says.code ≡ 8 → ⊥)
       → ((step_of layout p s).says.code ≡ 9 → ⊥) → (step_of layout p s).leaves ≡ s
-  step-untouched = rw (step_is layout p s) (run-untouched (step_run layout p s) (step_laws layout p s).comes)
+  step_untouched = rw (step_is layout p s) (run_untouched (step_run layout p s) (step_laws layout p s).comes)

@@ -1,6 +1,6 @@
 -- Steps where every slot's cell has a good write for each of them: they all answer, and the writes of each cell are counted.
---   step-says                 what such a step answers
---   StepsCalm, steps-calm     what n of them answer, keep and ask of each slot's cell
+--   step_says                 what such a step answers
+--   StepsCalm, steps_calm     what n of them answer, keep and ask of each slot's cell
 --   fresh_lasts               a fresh chip lasts for n steps
 use Prim.Native.Nat.{ℕ, zero, suc, ◌+◌, ◌*◌, ◌%◌, ◌^◌, ◌≤◌, ◌<◌}
 use mathlib.Core.Path.{◌≡◌, refl, ap, ◌∙◌}
@@ -38,10 +38,10 @@ unfolding step_writes
 step_length zero copy pointer c = refl
 step_length (suc n) copy pointer c = ap suc (step_length n (copy + 1) pointer c)
 
-pub step-says :
+pub step_says :
     {layout : Layout} {p : Places} {c : ℕ} {s : Chip} → StepCalm layout p c s
     → (outcome_of (step_run layout p s)).says ≡ answer 0 (c + 1) (pos 0) 0 layout.copies 0
-step-says {layout} {p} {c} {s} calm = rw (good_says (step_run layout p s) calm.answers, calm.tried, calm.log, step_length)
+step_says {layout} {p} {c} {s} calm = rw (good_says (step_run layout p s) calm.answers, calm.tried, calm.log, step_length)
 
 pub record StepsCalm (n : ℕ) (layout : Layout) (p : Places) (c : ℕ) (s : Chip) : Type 0 where
   pub answers : (steps_up_to n layout p s).answer ≡ counting n layout c
@@ -77,7 +77,7 @@ module _ {layout : Layout} {p : Places} where
     more_calm rest =
         let on = steps_next n layout p s calm.answers in
         record {
-          answers = rw (on, rest.answers, step-says calm);
+          answers = rw (on, rest.answers, step_says calm);
           map = rw on (rest.map ∙ calm.map);
           tally = λ j l.
               let later = rw calm.map at (rest.tally j l) in
@@ -85,14 +85,14 @@ module _ {layout : Layout} {p : Places} where
               rw (on, sum, asked_append) (omega (arith, calm.tally j l, writes_step c small (j % 8)));
         }
 
-pub steps-calm :
+pub steps_calm :
     (n : ℕ) {layout : Layout} {p : Places} {c : ℕ} {s : Chip} → 1 ≤ layout.copies → c + n ≤ last_count → Exact layout p c s
     → LiveFor n layout p s → StepsCalm n layout p c s
-steps-calm zero {layout} {p} {c} {s} one fits exact live = none_calm c s
-steps-calm (suc n) {layout} {p} {c} {s} one fits exact live =
+steps_calm zero {layout} {p} {c} {s} one fits exact live = none_calm c s
+steps_calm (suc n) {layout} {p} {c} {s} one fits exact live =
     let small = step_nibble_small c (omega arith) in
     let calm = step_calm one (omega arith) exact (λ copy l. let h = live (8 * copy + changed_nibble c) (omega arith) in omega arith) in
-    more_calm n calm (omega arith) (steps-calm n one (omega arith) calm.exact (next_live n calm (omega arith) live))
+    more_calm n calm (omega arith) (steps_calm n one (omega arith) calm.exact (next_live n calm (omega arith) live))
 
 -- ## A fresh chip
 
@@ -127,7 +127,7 @@ module _ {n : ℕ} {layout : Layout} {p : Places} {s : Chip} (fresh : Fresh n la
 
   module _ (one : 1 ≤ layout.copies) (few : n ≤ last_count) where
     steps : StepsCalm n layout p 0 (opened layout p s)
-    steps = steps-calm n one (omega arith) opening.exact opened_live
+    steps = steps_calm n one (omega arith) opening.exact opened_live
 
     worn : (copy k : ℕ) → copy < layout.copies → k < 8 → Worn n layout p s copy k
     worn copy k l m =

@@ -1,5 +1,5 @@
 -- A byte written where a slot's cell is, since that cell has life and reads another byte.
---   slot-written              storing the slot is that write
+--   slot_written              storing the slot is that write
 --   written_map, written_ready, written_sound  the map stays, and the chip stays fit
 --   written_data, written_life  so do the other slots' bytes and lives
 use Prim.Native.Nat.{ℕ, ◌≤◌, ◌<◌}
@@ -24,10 +24,10 @@ module _ {layout : Layout} {p : Places} {s : Chip} (ready : Ready layout p s) (s
   abbrev written : Chip
   written = write_at (pointers layout p s k) b s
 
-  pub slot-written :
+  pub slot_written :
       (data_of layout p s k ≡ b → ⊥) → 1 ≤ life_at s (pointers layout p s k)
       → store_slot layout p k b s ≡ run Done (write (pointers layout p s k) b ∷ []) 0 written
-  slot-written other alive =
+  slot_written other alive =
       slot_alive layout p k b s ready.paired alive
       ∙ ap (λ (r : Run Bool). r giving Done) ((put_laws (pointers layout p s k) b s ready.paired).taken other alive)
 

@@ -1,5 +1,5 @@
 -- How many cells are spare.
---   count-range               the numbers of a range, counted one by one
+--   count_range               the numbers of a range, counted one by one
 --   spare_test, test_spare    the test of a spare cell says what a spare is
 --   high_counted, low_counted the spare cells of each kind are those of the gap that the pointers leave
 use Prim.Native.Nat.{ℕ, zero, suc, ◌+◌, ◌-◌, min, ◌≤◌, ◌<◌}
@@ -18,19 +18,19 @@ use Rattle.counter.specs.Slots.{kind_of}
 use Rattle.room.specs.Room.{past, is_spare, count}
 use Rattle.counter.proofs.RangeTests.{both_hold, hold_both, every_all, all_every, never}
 use Rattle.counter.proofs.SoundPointers.{test_reach, reach_test}
-use Rattle.counter.proofs.Gaps.{Between, Free, Spare, free_spare, spare_free}
+use Rattle.counter.proofs.Gaps.{Between, Spare, free_spare, spare_free}
 
 -- ## A range
 
 abbrev In : ℕ → ℕ → ℕ → Type 0
 In from to a = (from ≤ a) × (a < to)
 
-pub count-range :
+pub count_range :
     (n from to : ℕ) (test : ℕ → Bool) → ((a : ℕ) → In from to a → test a ≡ true) → ((a : ℕ) → test a ≡ true → In from to a)
     → count n test ≡ min n to - from
 unfolding count
-count-range zero from to test holds only = omega arith
-count-range (suc n) from to test holds only = go (dec_le from n) (dec_lt n to) (count-range n from to test holds only)
+count_range zero from to test holds only = omega arith
+count_range (suc n) from to test holds only = go (dec_le from n) (dec_lt n to) (count_range n from to test holds only)
   where
     go : Dec (from ≤ n) → Dec (n < to) → count n test ≡ min n to - from → count n test + cond (test n) 1 0 ≡ min (suc n) to - from
     go (yes f) (yes t) before = rw (holds n (f, t)) (omega arith)
@@ -80,12 +80,12 @@ module _ (layout : Layout) (p : Places) (pointer : ℕ → ℕ) where
   module _ {g : Gap} (between : Between (slots layout) p pointer g) (n : ℕ) where
     pub high_counted : count n (is_spare layout p pointer High) ≡ min n (min 256 g.low) - g.high
     high_counted =
-        count-range n g.high (min 256 g.low) _
+        count_range n g.high (min 256 g.low) _
         (λ a i. let from = i.0 in let to = i.1 in test_spare High a (free_spare between (record { from = from; to = omega arith; reach = λ e. omega arith })))
         (λ a t. let free = spare_free between (spare_test High a t) in let to = free.to in let reach = free.reach refl in (free.from, omega arith))
 
     pub low_counted : count n (is_spare layout p pointer Low) ≡ min n g.low - g.high
     low_counted =
-        count-range n g.high g.low _
+        count_range n g.high g.low _
         (λ a i. test_spare Low a (free_spare between (record { from = i.0; to = i.1; reach = λ e. absurd (true≢false cc) })))
         (λ a t. let free = spare_free between (spare_test Low a t) in (free.from, free.to))

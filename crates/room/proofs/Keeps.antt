@@ -3,13 +3,13 @@
 --                             a kept door gives what the plain one or its trial gives, whatever ends it is passed
 --   ends_kept                 from a first opening on they are those of the map, behind any calls
 --   room_kept                 so the room that they leave is the one counted from the whole map
-use Prim.Native.Nat.{ℕ, ◌<◌}
+use Prim.Native.Nat.{ℕ}
 use mathlib.Core.Path.{◌≡◌, refl, sym, ap, ◌∙◌}
-use mathlib.Core.Bool.{Bool, true, false, cond, ◌||◌, true≢false}
+use mathlib.Core.Bool.{Bool, true, false, cond}
 use mathlib.Core.List.{List, [], ◌∷◌}
 use mathlib.Core.Logic.{◌⊎◌, inl, inr}
 use native.Mathlib.Omega.{arith}
-use lib.Dec.{ltb, eqb}
+use Rattle.std.proofs.lemmas.Bool.Decides.{nat_tests}
 use Rattle.cells.specs.Chip.{Chip}
 use Rattle.counter.specs.declared.ends.Ends.{Ends}
 use Rattle.counter.specs.declared.layout.Layout.{Layout}
@@ -52,11 +52,11 @@ module _ (layout : Layout) (p : Places) (s : Chip) where
 -- where no pointer may have moved, no spare was tried, and the call did not end with 11
 no_tries : (says : Answer) → may_have_moved says ≡ false → says.tried ≡ 0
 unfolding may_have_moved
-no_tries says e = go (ltb 0 says.tried) refl
+no_tries says e = grind (arith, nat_tests)
 
 not_lost : (says : Answer) → may_have_moved says ≡ false → says.code ≡ 11 → ⊥
 unfolding may_have_moved
-not_lost says e h = ?
+not_lost says e h = grind (arith, nat_tests)
 
 module _ (layout : Layout) (p : Places) where
   -- the ends behind an outcome are those of its map, given those before it
@@ -79,7 +79,7 @@ module _ (layout : Layout) (p : Places) where
     where
       go : (trial_step_of layout p power torn s ≡ step_of layout p s) ⊎ ((trial_step_of layout p power torn s).says.code ≡ 11) → Keeps s (trial_step_of layout p power torn s)
       go (inl same) = rw same (step_keeps s)
-      go (inr lost) = keeps s _ (λ e. absurd (not_lost _ e lost))
+      go (inr lost) = keeps s (trial_step_of layout p power torn s) (λ e. absurd {0} (not_lost _ e lost))
 
   -- ## And behind a list of calls
 

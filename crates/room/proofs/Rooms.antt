@@ -16,7 +16,6 @@ use Rattle.counter.specs.Layout.{slots}
 use Rattle.counter.specs.Map.{map_in, pointer_of}
 use Rattle.counter.specs.Spares.{gap_of, spares_of}
 use Rattle.counter.specs.Ends.{ends, usable, ends_of}
-use Rattle.room.specs.declared.left.Room.{Room}
 use Rattle.room.specs.Room.{room, is_spare, count, room_of, left_of}
 use Rattle.counter.proofs.Settings.{good_placed}
 use Rattle.counter.proofs.Gaps.{Between, between_map, high_spares, low_spares}

@@ -12,7 +12,7 @@ use counter::verdict::Answer;
 use counter::{doors, trials};
 
 // An answer, and the ends of the map afterwards.
-#[derive(Drop)]
+#[derive(Clone, Copy)]
 pub struct Kept {
     pub answer: Answer,
     pub ends: Ends,

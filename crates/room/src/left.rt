@@ -7,7 +7,7 @@ ghost use Rattle.room.specs.Room.{between, left_of, room_of};
 use counter::ends::{Ends, ends_of};
 
 // The spare cells of each kind.
-#[derive(Drop)]
+#[derive(Clone, Copy)]
 pub struct Room {
     pub high: usize,
     pub low: usize,

@@ -43,14 +43,26 @@ use Rattle.counter.specs.contracts.doors.read_count
 use Rattle.counter.specs.contracts.doors.step
 use Rattle.counter.specs.contracts.doors.part_of
 use Rattle.counter.specs.contracts.doors.map_part
+use Rattle.counter.specs.contracts.ends.ends_of
 use Rattle.counter.specs.contracts.trials.trial_open
 use Rattle.counter.specs.contracts.trials.trial_step
 use Rattle.counter.specs.declared.verdict.Answer as verdict
 use Rattle.counter.specs.declared.doors.ReadAnswer as reading
 use Rattle.counter.specs.declared.doors.Part as doors
+use Rattle.room.specs.declared.kept.Kept as keeping
+use Rattle.room.specs.declared.left.Room as leaving
+use Rattle.room.specs.Kept.{KeptOutcome}
+use Rattle.room.specs.contracts.kept.kept_open
+use Rattle.room.specs.contracts.kept.kept_step
+use Rattle.room.specs.contracts.kept.kept_trial_open
+use Rattle.room.specs.contracts.kept.kept_trial_step
+use Rattle.room.specs.contracts.left.room_left
+use Rattle.room.specs.contracts.left.room_of
 use Rattle.lyre.specs.declared.Answer as plain
 use Rattle.lyre.specs.declared.ReadAnswer as plain_reading
 use Rattle.lyre.specs.declared.Part as plain_part
+use Rattle.lyre.specs.declared.Kept as plain_kept
+use Rattle.lyre.specs.declared.Room as plain_room
 use Rattle.lyre.specs.declared.Hex as plain_hex
 use Rattle.lyre.specs.declared.Card as plain_card
 use Rattle.lyre.specs.declared.Text as plain_text
@@ -60,6 +72,12 @@ use Rattle.lyre.specs.contracts.lyre_read
 use Rattle.lyre.specs.contracts.lyre_map_part
 use Rattle.lyre.specs.contracts.lyre_trial_open
 use Rattle.lyre.specs.contracts.lyre_trial_step
+use Rattle.lyre.specs.contracts.lyre_kept_open
+use Rattle.lyre.specs.contracts.lyre_kept_step
+use Rattle.lyre.specs.contracts.lyre_kept_trial_open
+use Rattle.lyre.specs.contracts.lyre_kept_trial_step
+use Rattle.lyre.specs.contracts.lyre_room_left
+use Rattle.lyre.specs.contracts.lyre_room_of
 use Rattle.lyre.specs.contracts.lyre_hex_write
 use Rattle.lyre.specs.contracts.lyre_hex_read
 use Rattle.lyre.specs.contracts.lyre_card_at
@@ -93,7 +111,7 @@ use Rattle.text.specs.contracts.write_signed_line
 use Prim.Native.Nat.{ℕ}
 use mathlib.Core.List.{List}
 
--- an answer, that of read, a part, the answer of Intel HEX and those of a card as they are laid out for C
+-- an answer, that of read, a part, the room, the answer of Intel HEX and those of a card as they are laid out for C
 abbrev answer_out : verdict.Answer → plain.Answer
 answer_out a = record { code = a.code; count = a.count; lag = a.lag; place = a.place; writes = a.writes; tried = a.tried }
 
@@ -105,6 +123,18 @@ read_answer_out r =
 abbrev part_out : doors.Part → plain_part.Part
 part_out p = record { code = p.code; start = p.start; length = p.size }
 
+abbrev room_out : leaving.Room → plain_room.Room
+room_out r = record { high = r.high; low = r.low }
+
+-- what a kept door gave, and as it is laid out for C
+abbrev kept_given : KeptOutcome → keeping.Kept
+kept_given v = record { answer = v.gives.says; ends = v.ends }
+
+abbrev kept_out : KeptOutcome → plain_kept.Kept
+kept_out v =
+    let a = v.gives.says in
+    record { code = a.code; count = a.count; lag = a.lag; place = a.place; writes = a.writes; tried = a.tried; high = v.ends.highest; low = v.ends.lowest }
+
 abbrev hex_out : hex.Answer → plain_hex.Hex
 hex_out a = record { code = a.code; line = a.line; length = a.length }
 
@@ -115,10 +145,10 @@ abbrev text_out : written.Written → plain_text.Text
 text_out w = record { code = w.code; length = w.length }
 
 -- bytes written are seen by where they end and by the text as it is left
-one-text :
+one_text :
     {before bytes after after' : List ℕ} {at next next' : ℕ} → Wrote before at bytes next after → Wrote before at bytes next' after'
     → filled next after ≡ filled next' after'
-one-text one two = λ i. filled ((one.ends ∙ sym two.ends) i) ((one.holds ∙ sym two.holds) i)
+one_text one two = λ i. filled ((one.ends ∙ sym two.ends) i) ((one.holds ∙ sym two.holds) i)
 
 module _ {M : Type 1} (𝓤 : Ura M) where
   -- what follows from two facts
@@ -184,7 +214,7 @@ module _ {M : Type 1} (𝓤 : Ura M) where
     pub wide_one : Sole 𝓤 wide.ended (wide.clauses 𝓛 mem run) (λ κs r at. r)
     wide_one _ _ _ _ _ _ _ = both (λ one two. one.0 ∙ sym two.0)
 
-    pub put_one : Sole 𝓤 put.ended (put.clauses 𝓛 mem run) (λ κs r at. left r (at .0 .now) (at .1 .0 .now))
+    pub put_one : Sole 𝓤 put.ended (put.clauses 𝓛 mem run) (λ κs r at. left r (at.0.now) (at.1.0.now))
     put_one _ _ _ _ _ _ _ = same (λ v. left (record { held = v.answer; writes = v.writes }) v.after.cells v.after.lives)
 
     pub steady_one : Sole 𝓤 steady.ended (steady.clauses 𝓛 mem run) (λ κs r at. r)
@@ -193,28 +223,28 @@ module _ {M : Type 1} (𝓤 : Ura M) where
     pub behind_one : Sole 𝓤 behind.ended (behind.clauses 𝓛 mem run) (λ κs r at. r)
     behind_one _ _ _ _ _ _ _ = both (λ one two. λ i. record { power = (one.0 ∙ sym two.0) i; torn = (one.1 ∙ sym two.1) i })
 
-    pub put_on_one : Sole 𝓤 put_on.ended (put_on.clauses 𝓛 mem run) (λ κs r at. left r (at .0 .now) (at .1 .0 .now))
+    pub put_on_one : Sole 𝓤 put_on.ended (put_on.clauses 𝓛 mem run) (λ κs r at. left r (at.0.now) (at.1.0.now))
     put_on_one _ _ _ _ _ _ _ =
         both (λ one two. let e = tells_one one two in λ i. left (record { lost = e.0 i; held = (e.1 i).answer; writes = (e.1 i).writes }) (e.1 i).after.cells (e.1 i).after.lives)
 
-    pub walk_one : Sole 𝓤 walk.ended (walk.clauses 𝓛 mem run) (λ κs r at. left r (at .0 .now) (at .1 .0 .now))
+    pub walk_one : Sole 𝓤 walk.ended (walk.clauses 𝓛 mem run) (λ κs r at. left r (at.0.now) (at.1.0.now))
     walk_one _ _ _ _ _ _ _ =
         both (λ one two. let e = tells_one one two in λ i. left (record { lost = e.0 i; found = (e.1 i).answer; writes = (e.1 i).writes; tried = (e.1 i).tried }) (e.1 i).after.cells (e.1 i).after.lives)
 
-    pub put_row_one : Sole 𝓤 put_row.ended (put_row.clauses 𝓛 mem run) (λ κs r at. left r (at .0 .now) (at .1 .0 .now))
+    pub put_row_one : Sole 𝓤 put_row.ended (put_row.clauses 𝓛 mem run) (λ κs r at. left r (at.0.now) (at.1.0.now))
     put_row_one _ _ _ _ _ _ _ =
         both (λ one two. let e = tells_one one two in λ i. left (record { lost = e.0 i; failed = (e.1 i).answer; writes = (e.1 i).writes }) (e.1 i).after.cells (e.1 i).after.lives)
 
-    pub open_one : Sole 𝓤 opens.ended (opens.clauses 𝓛 mem run) (λ κs r at. left r (at .0 .now) (at .1 .0 .now))
+    pub open_one : Sole 𝓤 opens.ended (opens.clauses 𝓛 mem run) (λ κs r at. left r (at.0.now) (at.1.0.now))
     open_one _ _ _ _ _ _ _ = same (λ v. left v.says v.leaves.cells v.leaves.lives)
 
-    pub step_one : Sole 𝓤 step.ended (step.clauses 𝓛 mem run) (λ κs r at. left r (at .0 .now) (at .1 .0 .now))
+    pub step_one : Sole 𝓤 step.ended (step.clauses 𝓛 mem run) (λ κs r at. left r (at.0.now) (at.1.0.now))
     step_one _ _ _ _ _ _ _ = same (λ v. left v.says v.leaves.cells v.leaves.lives)
 
-    pub trial_open_one : Sole 𝓤 trial_open.ended (trial_open.clauses 𝓛 mem run) (λ κs r at. left r (at .0 .now) (at .1 .0 .now))
+    pub trial_open_one : Sole 𝓤 trial_open.ended (trial_open.clauses 𝓛 mem run) (λ κs r at. left r (at.0.now) (at.1.0.now))
     trial_open_one _ _ _ _ _ _ _ = same (λ v. left v.says v.leaves.cells v.leaves.lives)
 
-    pub trial_step_one : Sole 𝓤 trial_step.ended (trial_step.clauses 𝓛 mem run) (λ κs r at. left r (at .0 .now) (at .1 .0 .now))
+    pub trial_step_one : Sole 𝓤 trial_step.ended (trial_step.clauses 𝓛 mem run) (λ κs r at. left r (at.0.now) (at.1.0.now))
     trial_step_one _ _ _ _ _ _ _ = same (λ v. left v.says v.leaves.cells v.leaves.lives)
 
     pub read_one : Sole 𝓤 read.ended (read.clauses 𝓛 mem run) (λ κs r at. r)
@@ -226,13 +256,34 @@ module _ {M : Type 1} (𝓤 : Ura M) where
     pub part_of_one : Sole 𝓤 part_of.ended (part_of.clauses 𝓛 mem run) (λ κs r at. r)
     part_of_one _ _ _ _ _ _ _ = same (λ r. r)
 
-    pub map_part_one : Sole 𝓤 map_part.ended (map_part.clauses 𝓛 mem run) (λ κs r at. handed r.ref_ptr r.now (at .1 .1 .1 .1 .1 .0 .now))
+    pub map_part_one : Sole 𝓤 map_part.ended (map_part.clauses 𝓛 mem run) (λ κs r at. handed r.ref_ptr r.now (at.1.1.1.1.1.0.now))
     map_part_one _ _ _ _ _ _ _ = both (λ one two. λ i. handed ((one.points ∙ sym two.points) i) ((one.holds ∙ sym two.holds) i) ((one.says ∙ sym two.says) i))
 
-    pub lyre_open_one : Sole 𝓤 lyre_open.ended (lyre_open.clauses 𝓛 mem run) (λ κs r at. left r (at .0 .now) (at .1 .0 .now))
+    pub ends_of_one : Sole 𝓤 ends_of.ended (ends_of.clauses 𝓛 mem run) (λ κs r at. r)
+    ends_of_one _ _ _ _ _ _ _ = same (λ r. r)
+
+    pub kept_open_one : Sole 𝓤 kept_open.ended (kept_open.clauses 𝓛 mem run) (λ κs r at. left r at.0.now at.1.0.now)
+    kept_open_one _ _ _ _ _ _ _ = same (λ v. left (kept_given v) v.gives.leaves.cells v.gives.leaves.lives)
+
+    pub kept_step_one : Sole 𝓤 kept_step.ended (kept_step.clauses 𝓛 mem run) (λ κs r at. left r at.0.now at.1.0.now)
+    kept_step_one _ _ _ _ _ _ _ = same (λ v. left (kept_given v) v.gives.leaves.cells v.gives.leaves.lives)
+
+    pub kept_trial_open_one : Sole 𝓤 kept_trial_open.ended (kept_trial_open.clauses 𝓛 mem run) (λ κs r at. left r at.0.now at.1.0.now)
+    kept_trial_open_one _ _ _ _ _ _ _ = same (λ v. left (kept_given v) v.gives.leaves.cells v.gives.leaves.lives)
+
+    pub kept_trial_step_one : Sole 𝓤 kept_trial_step.ended (kept_trial_step.clauses 𝓛 mem run) (λ κs r at. left r at.0.now at.1.0.now)
+    kept_trial_step_one _ _ _ _ _ _ _ = same (λ v. left (kept_given v) v.gives.leaves.cells v.gives.leaves.lives)
+
+    pub room_left_one : Sole 𝓤 room_left.ended (room_left.clauses 𝓛 mem run) (λ κs r at. r)
+    room_left_one _ _ _ _ _ _ _ = same (λ r. r)
+
+    pub room_of_one : Sole 𝓤 room_of.ended (room_of.clauses 𝓛 mem run) (λ κs r at. r)
+    room_of_one _ _ _ _ _ _ _ = same (λ r. r)
+
+    pub lyre_open_one : Sole 𝓤 lyre_open.ended (lyre_open.clauses 𝓛 mem run) (λ κs r at. left r (at.0.now) (at.1.0.now))
     lyre_open_one _ _ _ _ _ _ _ = same (λ v. left (answer_out v.says) v.leaves.cells v.leaves.lives)
 
-    pub lyre_step_one : Sole 𝓤 lyre_step.ended (lyre_step.clauses 𝓛 mem run) (λ κs r at. left r (at .0 .now) (at .1 .0 .now))
+    pub lyre_step_one : Sole 𝓤 lyre_step.ended (lyre_step.clauses 𝓛 mem run) (λ κs r at. left r (at.0.now) (at.1.0.now))
     lyre_step_one _ _ _ _ _ _ _ = same (λ v. left (answer_out v.says) v.leaves.cells v.leaves.lives)
 
     pub lyre_read_one : Sole 𝓤 lyre_read.ended (lyre_read.clauses 𝓛 mem run) (λ κs r at. r)
@@ -241,50 +292,68 @@ module _ {M : Type 1} (𝓤 : Ura M) where
     pub lyre_map_part_one : Sole 𝓤 lyre_map_part.ended (lyre_map_part.clauses 𝓛 mem run) (λ κs r at. r)
     lyre_map_part_one _ _ _ _ _ _ _ = same part_out
 
-    pub lyre_trial_open_one : Sole 𝓤 lyre_trial_open.ended (lyre_trial_open.clauses 𝓛 mem run) (λ κs r at. left r (at .0 .now) (at .1 .0 .now))
+    pub lyre_trial_open_one : Sole 𝓤 lyre_trial_open.ended (lyre_trial_open.clauses 𝓛 mem run) (λ κs r at. left r (at.0.now) (at.1.0.now))
     lyre_trial_open_one _ _ _ _ _ _ _ = same (λ v. left (answer_out v.says) v.leaves.cells v.leaves.lives)
 
-    pub lyre_trial_step_one : Sole 𝓤 lyre_trial_step.ended (lyre_trial_step.clauses 𝓛 mem run) (λ κs r at. left r (at .0 .now) (at .1 .0 .now))
+    pub lyre_trial_step_one : Sole 𝓤 lyre_trial_step.ended (lyre_trial_step.clauses 𝓛 mem run) (λ κs r at. left r (at.0.now) (at.1.0.now))
     lyre_trial_step_one _ _ _ _ _ _ _ = same (λ v. left (answer_out v.says) v.leaves.cells v.leaves.lives)
 
-    pub lyre_tray_one : Sole 𝓤 lyre_tray.ended (lyre_tray.clauses 𝓛 mem run) (λ κs r at. outcome r (at .1 .1 .1 .1 .1 .0 .now) (at .1 .1 .1 .1 .1 .1 .0 .now))
+    pub lyre_tray_one : Sole 𝓤 lyre_tray.ended (lyre_tray.clauses 𝓛 mem run) (λ κs r at. outcome r (at.1.1.1.1.1.0.now) (at.1.1.1.1.1.1.0.now))
     lyre_tray_one _ _ _ _ _ _ _ = same (λ v. v)
 
-    pub lyre_hex_write_one : Sole 𝓤 lyre_hex_write.ended (lyre_hex_write.clauses 𝓛 mem run) (λ κs r at. filled r (at .1 .0 .now))
+    pub lyre_kept_open_one : Sole 𝓤 lyre_kept_open.ended (lyre_kept_open.clauses 𝓛 mem run) (λ κs r at. left r at.0.now at.1.0.now)
+    lyre_kept_open_one _ _ _ _ _ _ _ = same (λ v. left (kept_out v) v.gives.leaves.cells v.gives.leaves.lives)
+
+    pub lyre_kept_step_one : Sole 𝓤 lyre_kept_step.ended (lyre_kept_step.clauses 𝓛 mem run) (λ κs r at. left r at.0.now at.1.0.now)
+    lyre_kept_step_one _ _ _ _ _ _ _ = same (λ v. left (kept_out v) v.gives.leaves.cells v.gives.leaves.lives)
+
+    pub lyre_kept_trial_open_one : Sole 𝓤 lyre_kept_trial_open.ended (lyre_kept_trial_open.clauses 𝓛 mem run) (λ κs r at. left r at.0.now at.1.0.now)
+    lyre_kept_trial_open_one _ _ _ _ _ _ _ = same (λ v. left (kept_out v) v.gives.leaves.cells v.gives.leaves.lives)
+
+    pub lyre_kept_trial_step_one : Sole 𝓤 lyre_kept_trial_step.ended (lyre_kept_trial_step.clauses 𝓛 mem run) (λ κs r at. left r at.0.now at.1.0.now)
+    lyre_kept_trial_step_one _ _ _ _ _ _ _ = same (λ v. left (kept_out v) v.gives.leaves.cells v.gives.leaves.lives)
+
+    pub lyre_room_left_one : Sole 𝓤 lyre_room_left.ended (lyre_room_left.clauses 𝓛 mem run) (λ κs r at. r)
+    lyre_room_left_one _ _ _ _ _ _ _ = same room_out
+
+    pub lyre_room_of_one : Sole 𝓤 lyre_room_of.ended (lyre_room_of.clauses 𝓛 mem run) (λ κs r at. r)
+    lyre_room_of_one _ _ _ _ _ _ _ = same room_out
+
+    pub lyre_hex_write_one : Sole 𝓤 lyre_hex_write.ended (lyre_hex_write.clauses 𝓛 mem run) (λ κs r at. filled r (at.1.0.now))
     lyre_hex_write_one _ _ _ _ _ _ _ = same (λ v. filled (hex_out v.answer) v.left)
 
-    pub lyre_hex_read_one : Sole 𝓤 lyre_hex_read.ended (lyre_hex_read.clauses 𝓛 mem run) (λ κs r at. filled r (at .1 .0 .now))
+    pub lyre_hex_read_one : Sole 𝓤 lyre_hex_read.ended (lyre_hex_read.clauses 𝓛 mem run) (λ κs r at. filled r (at.1.0.now))
     lyre_hex_read_one _ _ _ _ _ _ _ = same (λ v. filled (hex_out v.answer) v.left)
 
     pub lyre_card_at_one : Sole 𝓤 lyre_card_at.ended (lyre_card_at.clauses 𝓛 mem run) (λ κs r at. r)
     lyre_card_at_one _ _ _ _ _ _ _ = both (λ one two. ap card_out (told_one one two))
 
-    pub lyre_card_write_one : Sole 𝓤 lyre_card_write.ended (lyre_card_write.clauses 𝓛 mem run) (λ κs r at. filled r (at .1 .1 .1 .1 .0 .now))
+    pub lyre_card_write_one : Sole 𝓤 lyre_card_write.ended (lyre_card_write.clauses 𝓛 mem run) (λ κs r at. filled r (at.1.1.1.1.0.now))
     lyre_card_write_one _ _ _ _ _ _ _ = same (λ v. filled (text_out v.written) v.after)
 
-    pub write_image_one : Sole 𝓤 write_image.ended (write_image.clauses 𝓛 mem run) (λ κs r at. filled r (at .1 .0 .now))
+    pub write_image_one : Sole 𝓤 write_image.ended (write_image.clauses 𝓛 mem run) (λ κs r at. filled r (at.1.0.now))
     write_image_one _ _ _ _ _ _ _ = same (λ v. filled v.answer v.left)
 
-    pub read_image_one : Sole 𝓤 read_image.ended (read_image.clauses 𝓛 mem run) (λ κs r at. filled r (at .1 .0 .now))
+    pub read_image_one : Sole 𝓤 read_image.ended (read_image.clauses 𝓛 mem run) (λ κs r at. filled r (at.1.0.now))
     read_image_one _ _ _ _ _ _ _ = same (λ v. filled v.answer v.left)
 
-    pub write_byte_one : Sole 𝓤 write_byte.ended (write_byte.clauses 𝓛 mem run) (λ κs r at. filled r (at .1 .0 .now))
-    write_byte_one _ _ _ _ _ _ _ = both one-text
+    pub write_byte_one : Sole 𝓤 write_byte.ended (write_byte.clauses 𝓛 mem run) (λ κs r at. filled r (at.1.0.now))
+    write_byte_one _ _ _ _ _ _ _ = both one_text
 
-    pub write_bytes_one : Sole 𝓤 write_bytes.ended (write_bytes.clauses 𝓛 mem run) (λ κs r at. filled r (at .1 .0 .now))
-    write_bytes_one _ _ _ _ _ _ _ = both one-text
+    pub write_bytes_one : Sole 𝓤 write_bytes.ended (write_bytes.clauses 𝓛 mem run) (λ κs r at. filled r (at.1.0.now))
+    write_bytes_one _ _ _ _ _ _ _ = both one_text
 
-    pub write_decimal_one : Sole 𝓤 write_decimal.ended (write_decimal.clauses 𝓛 mem run) (λ κs r at. filled r (at .1 .0 .now))
-    write_decimal_one _ _ _ _ _ _ _ = both one-text
+    pub write_decimal_one : Sole 𝓤 write_decimal.ended (write_decimal.clauses 𝓛 mem run) (λ κs r at. filled r (at.1.0.now))
+    write_decimal_one _ _ _ _ _ _ _ = both one_text
 
-    pub write_signed_one : Sole 𝓤 write_signed.ended (write_signed.clauses 𝓛 mem run) (λ κs r at. filled r (at .1 .0 .now))
-    write_signed_one _ _ _ _ _ _ _ = both one-text
+    pub write_signed_one : Sole 𝓤 write_signed.ended (write_signed.clauses 𝓛 mem run) (λ κs r at. filled r (at.1.0.now))
+    write_signed_one _ _ _ _ _ _ _ = both one_text
 
-    pub write_decimal_line_one : Sole 𝓤 write_decimal_line.ended (write_decimal_line.clauses 𝓛 mem run) (λ κs r at. filled r (at .1 .1 .0 .now))
-    write_decimal_line_one _ _ _ _ _ _ _ = both one-text
+    pub write_decimal_line_one : Sole 𝓤 write_decimal_line.ended (write_decimal_line.clauses 𝓛 mem run) (λ κs r at. filled r (at.1.1.0.now))
+    write_decimal_line_one _ _ _ _ _ _ _ = both one_text
 
-    pub write_signed_line_one : Sole 𝓤 write_signed_line.ended (write_signed_line.clauses 𝓛 mem run) (λ κs r at. filled r (at .1 .1 .0 .now))
-    write_signed_line_one _ _ _ _ _ _ _ = both one-text
+    pub write_signed_line_one : Sole 𝓤 write_signed_line.ended (write_signed_line.clauses 𝓛 mem run) (λ κs r at. filled r (at.1.1.0.now))
+    write_signed_line_one _ _ _ _ _ _ _ = both one_text
 
     pub decimal_length_one : Sole 𝓤 decimal_length.ended (decimal_length.clauses 𝓛 mem run) (λ κs r at. r)
     decimal_length_one _ _ _ _ _ _ _ = both (λ one two. one.0 ∙ sym two.0)
@@ -292,10 +361,10 @@ module _ {M : Type 1} (𝓤 : Ura M) where
     pub read_decimal_line_one : Sole 𝓤 read_decimal_line.ended (read_decimal_line.clauses 𝓛 mem run) (λ κs r at. r)
     read_decimal_line_one _ _ _ _ _ _ _ = both (finds_one (line_ends _ Small))
 
-    pub write_card_one : Sole 𝓤 write_card.ended (write_card.clauses 𝓛 mem run) (λ κs r at. filled r (at .1 .0 .now))
+    pub write_card_one : Sole 𝓤 write_card.ended (write_card.clauses 𝓛 mem run) (λ κs r at. filled r (at.1.0.now))
     write_card_one _ _ _ _ _ _ _ = same (λ v. filled v.written v.after)
 
-    pub write_rows_one : Sole 𝓤 write_rows.ended (write_rows.clauses 𝓛 mem run) (λ κs r at. filled r (at .1 .1 .1 .1 .0 .now))
+    pub write_rows_one : Sole 𝓤 write_rows.ended (write_rows.clauses 𝓛 mem run) (λ κs r at. filled r (at.1.1.1.1.0.now))
     write_rows_one _ _ _ _ _ _ _ = same (λ v. filled v.written v.after)
 
     pub read_card_one : Sole 𝓤 read_card.ended (read_card.clauses 𝓛 mem run) (λ κs r at. r)
@@ -310,5 +379,5 @@ module _ {M : Type 1} (𝓤 : Ura M) where
     pub answer_of_chip_one : Sole 𝓤 answer_of_chip.ended (answer_of_chip.clauses 𝓛 mem run) (λ κs r at. r)
     answer_of_chip_one _ _ _ _ _ _ _ = same (λ r. r)
 
-    pub read_tray_one : Sole 𝓤 read_tray.ended (read_tray.clauses 𝓛 mem run) (λ κs r at. outcome r (at .1 .1 .1 .1 .1 .0 .now) (at .1 .1 .1 .1 .1 .1 .0 .now))
+    pub read_tray_one : Sole 𝓤 read_tray.ended (read_tray.clauses 𝓛 mem run) (λ κs r at. outcome r (at.1.1.1.1.1.0.now) (at.1.1.1.1.1.1.0.now))
     read_tray_one _ _ _ _ _ _ _ = same (λ v. v)

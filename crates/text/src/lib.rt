@@ -1,5 +1,7 @@
 // Lines of key=value written into a lent text. A function that writes does so from an index on, asks for room for
 // what it writes, and answers the index past it. Module `reading` reads them.
+#![tactic(auto)]
+
 pub mod reading;
 
 ghost use Rattle.std.specs.Prelude.{◌+◌, ◌%◌, ◌<◌, ◌≤◌, ◌≡◌, [], ◌∷◌, nat_abs, length};

@@ -9,7 +9,7 @@ ghost use Rattle.text.specs.Inside.{Stands, DigitAt, closed};
 const LAST: u64 = 4294967295;
 
 // A number that was found, and the index past it; both are 0 where none was.
-#[derive(Drop)]
+#[derive(Clone, Copy)]
 pub struct Number {
     pub value: u32,
     pub next: usize,

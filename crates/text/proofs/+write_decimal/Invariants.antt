@@ -1,0 +1,5 @@
+-- The number falls to its tenth at each call.
+use Rattle.text.proofs.+write_decimal.Given as goal
+
+abbrev pub decreases-write_decimal : goal.decreases-write_decimal
+decreases-write_decimal l = l.n
