@@ -46,7 +46,8 @@ fn read_full(input: &mut impl Read, buffer: &mut [u8]) -> usize
     done
 }
 
-// An image of more than 4096 bytes is refused whatever it holds, so no more than 4097 are read.
+// An image of more than 4096 bytes is refused whatever it holds, so no more than 4097 are read. Lines that cannot be written are lost
+// without a word.
 fn main(rt: HostRuntime) {
     let mut image = [0u8; 4097];
     let size = read_full(&mut rt.stdin(), &mut image);
