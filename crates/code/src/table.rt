@@ -6,7 +6,7 @@ ghost use Rattle.std.specs.Prelude.{◌≡◌, ℕ, ◌<◌, get_or};
 ghost use Rattle.code.specs.Entries.{entry_of, entries};
 
 // The entries of the bytes 00 to FF.
-const TABLE: [u8; 256] = [
+static TABLE: [u8; 256] = [
     144, // 00
     144, 144, 26, 144, 25, 24, 1, 144, 36, 53, 144, 94, 144, 144, 27, 144, 35, 62, 144, 85, 144,
     144, 28, 32, 2, 144, 33, 144, 34, 119, 144, 144, 46, 51, 144, 84, 144, 144, 29, 49, 144, 4, 48,
@@ -23,11 +23,18 @@ const TABLE: [u8; 256] = [
     129, 144, 130, 144, 144, 144, // FF
 ];
 
-// The table, laid once where many bytes are looked up.
+// The table where it stands.
+pub fn lent() -> &'static [u8; 256]
+    ensures { result.now ≡ entries }
+{
+    &TABLE
+}
+
+// A table of one's own.
 pub fn laid() -> [u8; 256]
     ensures { result ≡ entries }
 {
-    TABLE
+    *lent()
 }
 
 // A byte as a number of any size.

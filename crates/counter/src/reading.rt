@@ -22,7 +22,7 @@ use cells::row::Found;
 use code::gray::count_of;
 use code::nibbles::word_of;
 use code::reading::{is_lost, nibble_read, reading_at, twofold_at};
-use code::table::{entries_of, laid, wide};
+use code::table::{entries_of, lent, wide};
 
 // The byte at a slot's pointer.
 fn byte_of(image: &[u8], map: &[u8], slot: usize) -> u8
@@ -164,7 +164,7 @@ fn plain_word(image: &[u8], map: &[u8]) -> Plain
     requires { Reaches image.now map.now }
     ensures { result.clean ≡ true → (n : ℕ) → n < 8 → (data_at image.now map.now n ≡ code_of (nibble_of result.word n)) × (data_at image.now map.now (8 + n) ≡ data_at image.now map.now n) }
 {
-    let table = laid();
+    let table = lent();
     let mut word = 0u32;
     let mut apart = 0u8;
     let mut seen = 0u8;

@@ -74,7 +74,27 @@ fn read_with(text: &[u8], image: &mut [u8], cells: &mut [u16]) -> Answer
     answer
 }
 
-// Reads a text into an image. For a small image few cells are laid.
+// Reads a text into an image for which few cells are laid.
+fn read_small(text: &[u8], image: &mut [u8]) -> Answer
+    requires { length image.old ≤ 256 }
+    ensures { outcome result image.new ≡ read_lines image.old 0 (lines_of text.now) (blank (length image.old)) }
+{
+    let n = image.len();
+    let mut cells = [NOT_YET; 256];
+    read_with(text, image, &mut cells[..n])
+}
+
+// Reads a text into an image of any allowed length.
+fn read_large(text: &[u8], image: &mut [u8]) -> Answer
+    requires { length image.old ≤ 4096 }
+    ensures { outcome result image.new ≡ read_lines image.old 0 (lines_of text.now) (blank (length image.old)) }
+{
+    let n = image.len();
+    let mut cells = [NOT_YET; 4096];
+    read_with(text, image, &mut cells[..n])
+}
+
+// Reads a text into an image.
 pub fn read_image(text: &[u8], image: &mut [u8]) -> Answer
     ensures { outcome result image.new ≡ read_of text.now image.old }
 {
@@ -83,9 +103,7 @@ pub fn read_image(text: &[u8], image: &mut [u8]) -> Answer
         return refused(7, 0);
     }
     if n <= 256 {
-        let mut cells = [NOT_YET; 256];
-        return read_with(text, image, &mut cells[..n]);
+        return read_small(text, image);
     }
-    let mut cells = [NOT_YET; 4096];
-    read_with(text, image, &mut cells[..n])
+    read_large(text, image)
 }

@@ -1,5 +1,5 @@
 // A text read line by line into a memory of cells, each of which has its byte or none yet.
-ghost use Rattle.std.specs.Prelude.{◌≡◌, ◌+◌, ◌*◌, ◌%◌, ◌<◌, ◌≤◌, not, ◌&&◌, ◌||◌, length, if◌then◌else◌, ◌==◌, nat_lt};
+ghost use Rattle.std.specs.Prelude.{◌≡◌, ◌+◌, ◌*◌, ◌%◌, ◌<◌, ◌≤◌, not, ◌&&◌, ◌||◌, ℕ, length, List, replicate, if◌then◌else◌, ◌==◌, nat_lt};
 ghost use Rattle.intelhex.specs.Signs.{colon, no_digit, value_of, byte_at};
 ghost use Rattle.intelhex.specs.Records.{data_kind};
 ghost use Rattle.intelhex.specs.Faults.{not_yet};
@@ -261,6 +261,15 @@ fn judge(values: &[u32; 256], text: &[u8], at: usize, head: Head, held: Data, si
     }
 }
 
+// Reads data that cannot be stored. The cells for them are laid here alone, since a function clears the ones it lays.
+fn read_aside(values: &[u32; 256], text: &[u8], at: usize, count: usize) -> Data
+    requires { Laid values.now × (count < 256) × (at + 2 * count ≤ length text.now) }
+    ensures { (after : List ℕ) × DataIs text.now at count (replicate 256 not_yet) 0 result after }
+{
+    let mut cells = [NOT_YET; 256];
+    read_data(values, text, at, count, &mut cells, 0)
+}
+
 // Reads the line that begins at an index into cells. What cannot be stored is read aside, since its form and its checksum are judged
 // first.
 pub(crate) fn read_line(values: &[u32; 256], text: &[u8], at: usize, cells: &mut [u16]) -> Read
@@ -285,7 +294,6 @@ pub(crate) fn read_line(values: &[u32; 256], text: &[u8], at: usize, cells: &mut
         let held = read_data(values, text, start, count, cells, address);
         return judge(values, text, start + 2 * count, head, held, cells.len());
     }
-    let mut aside = [NOT_YET; 256];
-    let held = read_data(values, text, start, count, &mut aside, 0);
+    let held = read_aside(values, text, start, count);
     judge(values, text, start + 2 * count, head, held, cells.len())
 }

@@ -24,6 +24,7 @@ use Rattle.code.specs.contracts.reading.twofold_byte
 use Rattle.code.specs.contracts.reading.is_lost
 use Rattle.code.specs.contracts.reading.nibble_read
 use Rattle.code.specs.contracts.mended.mended_bits
+use Rattle.code.specs.contracts.table.lent
 use Rattle.code.specs.contracts.table.laid
 use Rattle.code.specs.contracts.table.wide
 use Rattle.code.specs.contracts.table.entries_of
@@ -203,6 +204,9 @@ module _ {M : Type 1} (𝓤 : Ura M) where
 
     pub mended_bits_one : Sole 𝓤 mended_bits.ended (mended_bits.clauses 𝓛 mem run) (λ κs r at. r)
     mended_bits_one _ _ _ _ _ _ _ = same (λ r. r)
+
+    pub lent_one : Sole 𝓤 lent.ended (lent.clauses 𝓛 mem run) (λ κs r at. r.now)
+    lent_one _ _ _ _ _ _ _ = same (λ v. v)
 
     pub laid_one : Sole 𝓤 laid.ended (laid.clauses 𝓛 mem run) (λ κs r at. r)
     laid_one _ _ _ _ _ _ _ = same (λ r. r)

@@ -14,7 +14,7 @@ pub loop-n-init : goal.loop-n-init
 loop-n-init c =
     record {
       most = omega arith;
-      rule = λ b h. ap (λ (table : List ℕ). get_or table b 0) c.laid-table.ensures ∙ entry_at b h;
+      rule = λ b h. ap (λ (table : List ℕ). get_or table b 0) c.lent-table.ensures ∙ entry_at b h;
       plain = λ same clean. (omega arith, λ k l. absurd (omega arith));
     }
 
@@ -28,7 +28,7 @@ loop-n-preserved c =
     let byte : ℕ → ℕ = data_at s.image.now s.map.now in
     let read : wide.result ≡ byte loop.n = wide.ensures.0 ∙ own.ensures in
     let small : byte loop.n < 256 = rw (← read) wide.ensures.1 in
-    let found = get_or c.laid-table.result wide.result 0 in
+    let found = get_or c.lent-table.result.now wide.result 0 in
     let entry : found ≡ entry_of (byte loop.n) = loop.invariant.rule wide.result wide.ensures.1 ∙ ap entry_of read in
     let differ = bit_xor own.result other.result in
     record {

@@ -24,4 +24,4 @@ returns-then-address-count c =
 pub returns : goal.returns
 returns c =
     line_aside _ c.head_at-head.ensures (not-false _ c.if-not-head.false)
-    c.judge-2.ensures c.read_data-held-2.ensures c.if-address-count.false
+    c.judge-2.ensures c.read_aside-held.ensures.1 c.if-address-count.false
