@@ -241,7 +241,7 @@ static void growth_row(size_t n, size_t e)
 }
 
 /* What a tray may take beside reading each of its images alone, in hundredths: of one image, and of several. */
-enum { percent_of_one = 108, percent_of_several = 100 };
+enum { percent_of_one = 111, percent_of_several = 100 };
 
 /* Image i has been stepped i times. */
 static void lay_tray(uint8_t *tray, size_t images)
