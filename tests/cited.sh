@@ -15,7 +15,7 @@ cited() {
 }
 
 # How a name is declared: after a word that says as what, or, in a definition or theorem, before its type.
-kinds='record|data|fn|const|struct|enum'
+kinds='record|data|fn|const|static|struct|enum'
 words='unfoldable|abbrev|pub|pub\(crate\)'
 names=$(cited | wc -l)
 cited | while read -r place name; do
