@@ -1,6 +1,6 @@
 /* The doors for C of the turn counter, a 32-bit count kept in an EEPROM image by the scheme of AN1449, of the room that is left in such
-   an image, and of a tray of them; of Intel HEX, by which an image comes and goes as text; and of the stylus card, which says how many of these turns a sapphire has
-   had; as documents 01 and 02 set them down. The archive is liblyre.a.
+   an image, and of a tray of them; of Intel HEX, by which an image comes and goes as text; and of the stylus card, which says how many
+   of these turns a sapphire has had; as documents 01 and 02 set them down. The archive is liblyre.a.
 
    What a caller owes:
    - the archive holds x86-64 code, called by the System V convention: the stack is aligned to 16 bytes at the call, as a C

@@ -1,7 +1,8 @@
 #!/bin/sh
 # tests/wrong.sh [--anew] [CRATE..]: has rt try the wrong programs in the wrong/ folders of the crates, or of those named, as it tries those
-# of must-fail/, and fails unless the prover refuses each for a fact that does not hold. rt begins with what `rt check` kept of a crate and
-# tries a wrong program again only where something has changed; with --anew it tries all.
+# of must-fail/, and fails unless the prover refuses each for a fact that it could not prove. One that it gave up on at a limit is refused too,
+# and counted apart. rt begins with what `rt check` kept of a crate and tries a wrong program again only where something has changed; with
+# --anew it tries all.
 set -eu
 cd "$(dirname "$0")/.."
 anew=''

@@ -1,8 +1,8 @@
 -- Laws of work that may be cut.
 --   Starts                    a log starts with another
 --   cut_enough, cut_then, cut_first  power for every write, for all of a first piece, or not even for that
---   Left, left-..             what is left of a piece of work, behind so many writes and tries
---   said-..                   the same over what a function has said of a first piece
+--   Left, left_..             what is left of a piece of work, behind so many writes and tries
+--   said_..                   the same over what a function has said of a first piece
 --   said_plain                with power for every write it has said it of the plain work
 --   tells_whole, tells_one    there is one way to tell
 use Prim.Native.Nat.{ℕ, zero, suc, ◌+◌, ◌-◌, ◌≤◌}

@@ -1,10 +1,10 @@
 -- The nearest-code rule, computed quickly: the bits of a byte are counted in eight steps, and not in as many as the byte is large.
 --   quick_twofold    whether a byte is one bit from two codes
 --   quick_reading    the reading of a byte
---   reading_quick   it is that by the rule
---   by_quick        what is made of both is the same by the rule and quickly
+--   reading_quick    it is that by the rule
+--   by_quick         what is made of both is the same by the rule and quickly
 --   quick_entry      the entry of a byte
---   entries_quick   the table holds these entries
+--   entries_quick    the table holds these entries
 use mathlib.Core.Path.{◌≡◌, refl, ap, ◌∙◌}
 use mathlib.Core.Bool.{Bool, cond}
 use mathlib.Core.List.{List, [], ◌∷◌}

@@ -1,5 +1,5 @@
 -- A byte put at a slot's cell, and moved to a spare if the put fails: what it keeps, what it changes, what it costs.
---   gap_at, room_of             the gap and the room that a chip's map leaves
+--   gap_at, room_of           the gap and the room that a chip's map leaves
 --   Ended, not_done           how storing can end, and what stopped is not done
 --   Settles                   what such work comes to where it is done
 --   SlotLaws                  the laws, given what the work may cost beside the spares it tries; what tried none left the map

@@ -2,15 +2,14 @@
 -- `stored`, and of where the power was lost, `l`.
 --   ready_same                a chip of the same lengths is as ready
 --   whole_fits, narrow_fits   the gaps of a first opening fit the image
---   take_left, take-left-..    what is left of taking addresses
+--   take_left, take_left_..   what is left of taking addresses
 --   served_some, served_all   whether it served every slot
---   Taking, taking-..         how a taking stands between two turns, and its end
---   turn-..                   one turn of it
---   pointers-works            the pointers, as one row of bytes
+--   Taking, taking_..         how a taking stands between two turns, and its end
+--   turn_..                   one turn of it
 --   mark_works                the mark
 --   map_works                 the map: the mark behind the pointers
 --   opening_lost, opening_stopped, opening_works  the whole, by how its taking ended
---   taken_enough, taken_many, taken-reach  what a taking that served every slot leaves for the map
+--   taken_enough, taken_many  what a taking that served every slot leaves for the map
 use Rattle.std.proofs.Common.{◌≡◌, ℕ, suc, ◌+◌, ◌-◌, ◌%◌, ◌^◌, ◌<◌, ◌≤◌, Bool, true, false, List, [], ◌∷◌, ◌++◌, length, take, sym, refl, ap, ◌∙◌, append_assoc, append-nil, zero-add, arith, length-append, le-ltb, lt-ltb}
 use native.Mathlib.Nat.{sub-zero, sub_self}
 use Rattle.code.specs.Codes.{code_of}

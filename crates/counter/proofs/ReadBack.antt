@@ -1,5 +1,5 @@
 -- Cells to turns: bytes that read as the nibbles of a count, lost ones aside, are read as that count, with lag 0.
---   slot_code_lem                 the code of a slot, by its nibble of the word
+--   slot_code_lem             the code of a slot, by its nibble of the word
 --   count_told, count_tells   the count of a copy from its nibbles, and its nibbles from the count
 --   Spared                    in some copy a test does not hold of a nibble
 --   weigh_decides             where of each nibble some copy is not lost, the counts decide

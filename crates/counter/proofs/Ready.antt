@@ -1,5 +1,5 @@
 -- A chip with good settings, and what stays of its map while cells are written.
---   pointers, data_of          a chip's pointers, and the byte at each
+--   pointers, data_of         a chip's pointers, and the byte at each
 --   Ready                     refusals 1 and 2 do not hold
 --   ready_placed              the settings as facts
 --   ready_kept                it stays so

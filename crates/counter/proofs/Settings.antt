@@ -1,5 +1,5 @@
 -- Good lengths and place settings, as facts of arithmetic.
---   length_good_lem               what a good length says
+--   length_good_lem           what a good length says
 --   Placed                    what good place settings say
 --   good_placed               the test turned into it
 --   map_outside               no map cell is a cell of the area

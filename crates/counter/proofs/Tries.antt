@@ -1,7 +1,7 @@
 -- Spares tried: what it keeps, what it changes, what it costs.
 --   room                      the cells between the pointers of the two kinds
 --   spares_room               the spares are no more than the room
---   asked_spares               the byte asked of each spare of a gap, in order
+--   asked_spares              the byte asked of each spare of a gap, in order
 --   Missing                   no spare holds: each was asked and refuses, and the chip is as it was
 --   Landing                   a spare holds: the chip is that one put from the start
 --   Trying, TryLaws, try_laws

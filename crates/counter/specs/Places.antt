@@ -1,4 +1,4 @@
--- The image's length and the place settings (document 01, "The chip as lent"). Sums are whole_number sums.
+-- The image's length and the place settings (document 01, "The chip as lent"). Sums are whole-number sums.
 use Rattle.std.specs.Prelude.{ℕ, ◌+◌, ◌-◌, ◌*◌, Bool, ◌&&◌, ◌||◌, length, ◌==◌, nat_le, nat_lt}
 use Rattle.cells.specs.Chip.{Chip}
 use Rattle.counter.specs.declared.places.Places.{Places}

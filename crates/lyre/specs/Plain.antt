@@ -1,4 +1,4 @@
--- What the structs for C say, in the terms of the counter, of room, of hex and of card.
+-- What the structs for C say, in the terms of the counter, of room, of intelhex and of card.
 use Rattle.counter.specs.declared.verdict.Answer as verdict
 use Rattle.counter.specs.declared.doors.ReadAnswer as reading
 use Rattle.counter.specs.declared.doors.Part as doors

@@ -1,4 +1,4 @@
-// The doors for C, as include/lyre.h declares them. Each hands its arguments to a door of the counter, of hex, of card, of dumps or of
+// The doors for C, as include/lyre.h declares them. Each hands its arguments to a door of the counter, of intelhex, of card, of dumps or of
 // room, and promises what that door promises.
 #![tactic(auto)]
 

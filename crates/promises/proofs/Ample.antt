@@ -1,5 +1,5 @@
 -- Storing where the cells to be written have life: each is written once, where it is, and nothing else.
---   changed_writes             a write for each slot whose byte is another than it is to be
+--   changed_writes            a write for each slot whose byte is another than it is to be
 --   Calm                      storing that is done with just those writes, the map staying as it is
 --   calm_from, calm_store     so it goes where those cells have life
 --   tally_slot, tally_other   how many of those writes are asked of a slot's cell, and of any other

@@ -1,5 +1,5 @@
 -- A clean step, cut in its write to one of the copies (document 02, P6), over any number of copies.
---   changed_slot               the slot that a step changes in a copy
+--   changed_slot              the slot that a step changes in a copy
 --   Clean                     a chip on which a step is clean
 --   StepCell                  the cells that it writes
 --   Torn                      what a step leaves that was cut in its write to a copy

@@ -1,5 +1,5 @@
 -- A step on a chip that holds its count exactly: what it asks, where the cells have life and where they have not.
---   step_writes                the writes of a step, one a copy, in order
+--   step_writes               the writes of a step, one a copy, in order
 --   step_log                  the slots that change give just those
 --   step_stores               a step on an exact chip is the store of the next count
 --   StepBound, step_bound     what it asks of area cells, against the room

@@ -1,6 +1,6 @@
 -- Which bits were mended (document 02, P1), in the answer of a read.
 --   refused_bits              a refusal returns eight zeros
---   mended_cells, bits_add     else the eight counts add up to the number of data cells that were mended
+--   mended_cells, bits_add    else the eight counts add up to the number of data cells that were mended
 --   bits_most                 so they add up to no more than there are data cells
 use Prim.Native.Nat.{ℕ, ◌≤◌, ◌<◌}
 use mathlib.Core.Path.{◌≡◌, refl, ap, ◌∙◌}

@@ -1,6 +1,6 @@
 -- Room is refused exactly where every spare of the kind refuses the byte, and when each has been asked (condition 2; document 01, refusal 8).
 --   Spareless, Full           every spare of a slot's kind refuses a byte, and its own cell too
---   all_asked                  what is done for such a slot: its own cell and every spare of its kind are asked
+--   all_asked                 what is done for such a slot: its own cell and every spare of its kind are asked
 --   Asked                     work that ends so
 --   all_asked_lem, asked_then, asked_giving  it holds of that slot, of work behind other work, and with another answer
 --   spare_asked, asked_each   every spare is among those asked

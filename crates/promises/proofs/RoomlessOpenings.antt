@@ -1,6 +1,6 @@
 -- A first opening is stopped for want of room exactly where the turn of a slot comes, and every spare that the addresses taken so
 -- far leave for it refuses the code of 0 (condition 2).
---   taken_to, Bare             the addresses taken so far, as pointers; no spare that pointers leave takes the code of 0
+--   taken_to, Bare            the addresses taken so far, as pointers; no spare that pointers leave takes the code of 0
 --   OpeningFull, opening_roomless
 --   SparesAsked               work that ends in asking every spare that pointers leave
 --   spares_giving             the same with another answer

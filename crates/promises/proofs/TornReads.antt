@@ -1,5 +1,5 @@
 -- What read and open make of a clean step that was cut (document 02, P6), at two copies.
---   old_nibble, new_nibble      the nibble that the step changes, before it and after it
+--   old_nibble, new_nibble    the nibble that the step changes, before it and after it
 --   ReadsLost, ReadsAs, ReadsOther  what a torn byte reads as
 --   ReadsApart, ReadsCount    what a read answers
 --   FirstTorn, first_torn     what is read then, where the first write was torn

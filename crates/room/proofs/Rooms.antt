@@ -1,5 +1,5 @@
 -- The room that is left.
---   room-used, room_none      the room in an image whose map can be used, and in any other
+--   left_used, room_none      the room in an image whose map can be used, and in any other
 --   room_tried                it is how many spares of each kind a store finds to try
 --   left_counted              the ends of a map leave the room that is counted from the whole of it
 use Prim.Native.Nat.{ℕ, ◌-◌, min, ◌≤◌}

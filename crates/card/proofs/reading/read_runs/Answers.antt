@@ -1,4 +1,4 @@
--- `read_runs` meets its contract. The invariant of its loop: the first `done` runs were read. The measure is how many are left.
+-- `read_runs` meets its contract.
 use mathlib.Core.Path.{refl, ◌∙◌}
 use native.Mathlib.Omega.{arith}
 use Rattle.card.proofs.RowLaws.{passed_none, passed_stuck, passed_more}

@@ -1,4 +1,4 @@
--- What the loop of `reading::read_runs` keeps.
+-- What the loop of `read_runs` keeps: the first `done` runs were read. The measure is how many are left.
 use Prim.Native.Nat.{◌-◌}
 use mathlib.Core.Path.{◌≡◌}
 use lib.ListN.{length}

@@ -1,4 +1,4 @@
--- `are_speeds` meets its contract. The invariant of its loop: all are speeds if all that are left are. The measure is how many there are.
+-- `are_speeds` meets its contract.
 use mathlib.Core.Path.{sym, ◌∙◌}
 use native.Mathlib.Omega.{arith}
 use Rattle.card.proofs.RunLaws.{speeds_end, speeds_next, speeds_fail}

@@ -1,4 +1,4 @@
--- What the loop of `runs::are_speeds` keeps.
+-- What the loop of `are_speeds` keeps: all are speeds if all that are left are. The measure is how many there are.
 use Prim.Native.Nat.{◌-◌, ◌≤◌}
 use mathlib.Core.Path.{◌≡◌}
 use lib.ListN.{length, drop}

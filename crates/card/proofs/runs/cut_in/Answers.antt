@@ -1,5 +1,4 @@
--- `cut_in` meets its contract. The invariant of its loop: with the runs that are left the sums come to those of all. The measure is how
--- many are left.
+-- `cut_in` meets its contract.
 use native.Mathlib.Omega.{arith}
 use Rattle.card.proofs.RunLaws.{runs_end, total_next, time_next}
 use Rattle.card.proofs.runs.cut_in.Goals as goal

@@ -1,4 +1,4 @@
--- What the loop of `runs::cut_in` keeps.
+-- What the loop of `cut_in` keeps: with the runs that are left the sums come to those of all. The measure is how many are left.
 use Prim.Native.Nat.{◌+◌, ◌-◌, ◌*◌, ◌≤◌}
 use mathlib.Core.Path.{◌≡◌}
 use lib.ListN.{length, drop}

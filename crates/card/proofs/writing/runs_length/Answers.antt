@@ -1,5 +1,4 @@
--- `runs_length` meets its contract. The invariant of its loop: with the runs that are left the sum comes to that of all. The measure is
--- how many are left.
+-- `runs_length` meets its contract.
 use native.Mathlib.Omega.{arith}
 use Rattle.card.proofs.WriteLaws.{lengths_end, lengths_next}
 use Rattle.card.proofs.writing.runs_length.Goals as goal

@@ -1,4 +1,4 @@
--- What the loop of `writing::runs_length` keeps.
+-- What the loop of `runs_length` keeps: with the runs that are left the sum comes to that of all. The measure is how many are left.
 use Prim.Native.Nat.{◌+◌, ◌-◌, ◌*◌, ◌≤◌}
 use mathlib.Core.Path.{◌≡◌}
 use lib.ListN.{length, drop}

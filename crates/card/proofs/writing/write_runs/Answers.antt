@@ -1,4 +1,4 @@
--- `write_runs` meets its contract. The invariant of its loop: the lines of the runs passed were written. The measure is how many are left.
+-- `write_runs` meets its contract.
 use Prim.Native.Nat.{◌+◌, ◌≤◌}
 use mathlib.Core.Path.{refl, ◌∙◌}
 use mathlib.Core.List.{flatten}

@@ -1,4 +1,4 @@
--- What the loop of `writing::write_runs` keeps.
+-- What the loop of `write_runs` keeps: the lines of the runs passed were written. The measure is how many are left.
 use Prim.Native.Nat.{◌+◌, ◌-◌, ◌≤◌}
 use mathlib.Core.Path.{◌≡◌}
 use mathlib.Core.List.{flatten}

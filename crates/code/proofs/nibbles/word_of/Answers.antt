@@ -1,4 +1,4 @@
--- `nibbles::word_of` meets its contract. The loop's invariant: the word so far is that of the nibbles from k on. The measure is k.
+-- `nibbles::word_of` meets its contract.
 use mathlib.Core.Path.{◌≡◌, sym, ap, ◌∙◌}
 use mathlib.Core.List.{List}
 use Prim.Native.Nat.{ℕ, ◌+◌, ◌-◌, ◌*◌, ◌%◌, ◌^◌, ◌<◌}

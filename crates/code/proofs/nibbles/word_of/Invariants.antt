@@ -1,4 +1,4 @@
--- What the loop of `nibbles::word_of` keeps.
+-- What the loop of `nibbles::word_of` keeps: the word so far is that of the nibbles from k on. The measure is k.
 use mathlib.Core.Path.{◌≡◌}
 use Prim.Native.Nat.{◌≤◌}
 use lib.ListN.{length, drop}

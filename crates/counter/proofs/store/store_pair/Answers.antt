@@ -24,7 +24,7 @@ put-taken-requires c =
     let ready = fitted_ready c.requires.0 in
     (rw c.cells_of-cells.ensures.0 (inside_cell ready ((test_sound two _ _ c.requires.1).inside _ (omega arith))), ready.paired)
 
--- ## It holds
+-- ## The put holds
 
 pub store_at-requires : goal.store_at-requires
 store_at-requires c =
@@ -45,7 +45,7 @@ returns-then-taken c =
     sym (slot_put two _ _ _ _ c.cells_of-cells.ensures.0 c.put-taken.ensures c.if-taken.true) in
     c.store_at.ensures ∙ behind_done (store_slot two _ _ _ _) (store_slot two _ _ _) stored refl refl
 
--- ## It fails
+-- ## The put fails
 
 pub move_behind-first-requires : goal.move_behind-first-requires
 move_behind-first-requires c =

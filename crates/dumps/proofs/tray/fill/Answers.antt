@@ -1,5 +1,4 @@
--- `fill` meets its contract. The invariant of its loop: the first `done` entries of both rows are there. The measure is how many are
--- left.
+-- `fill` meets its contract.
 use Prim.Native.Nat.{◌+◌}
 use mathlib.Core.Path.{ap}
 use native.Mathlib.Nat.{suc-mul}

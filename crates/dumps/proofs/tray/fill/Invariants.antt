@@ -1,4 +1,4 @@
--- What the loop of `tray::fill` keeps.
+-- What the loop of `fill` keeps: the first `done` entries of both rows are there. The measure is how many are left.
 use Prim.Native.Nat.{◌*◌, ◌-◌, ◌≤◌}
 use mathlib.Core.Path.{◌≡◌}
 use lib.ListN.{length}
