@@ -13,8 +13,8 @@
 
 typedef enum { writing, reading, refusing } task;
 
-/* What the archive may take of the C's, in hundredths, and nothing where a row is shown alone. Where cells are laid, Rattle's compiler clears
-   them before they are filled. */
+/* What the archive may take of the C's, in hundredths, and nothing where a row is shown alone. Where cells are laid, Rattle's
+   compiler clears them before they are filled. */
 enum { shown = 0, held = 100, cleared = 103 };
 
 /* The rows, and which of them are held. That a byte of a long text costs no more than one of a short text is seen from one N to
