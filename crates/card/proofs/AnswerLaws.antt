@@ -1,16 +1,10 @@
 -- What a card answers, case by case.
 use Prim.Native.Nat.{ℕ, ◌-◌, ◌≤◌, ◌<◌}
-use mathlib.Core.Path.{◌≡◌, refl}
-use mathlib.Core.List.{List}
+use mathlib.Core.Path.{◌≡◌}
 use borrow.Author.Tests.{lt-ltb, le-ltb, eq-eqb, ne_eqb}
 use lib.IntN.{pos, ◌-ℤ◌}
-use Rattle.card.specs.Cards.{Card, card}
+use Rattle.card.specs.Cards.{Card}
 use Rattle.card.specs.Answers.{fault_of, total, time_of, answer, refused, used_of, answer_of}
-
--- when it was fitted does not matter
-pub fault_any : (runs fitted allowed : ℕ) (speeds turns : List ℕ) → fault_of runs (card 0 allowed speeds turns) ≡ fault_of runs (card fitted allowed speeds turns)
-unfolding fault_of
-fault_any runs fitted allowed speeds turns = refl
 
 module _ (runs : ℕ) (c : Card) (count : ℕ) where
   pub answer_refused : (fault_of runs c ≡ 0 → ⊥) → answer_of runs c count ≡ refused (fault_of runs c)

@@ -1,5 +1,5 @@
 -- What the doors answer, case by case: a text read, the answer of a text, and that of a chip.
-use Prim.Native.Nat.{ℕ, ◌≤◌, ◌<◌, min}
+use Prim.Native.Nat.{ℕ, ◌≤◌, ◌<◌}
 use mathlib.Core.Path.{◌≡◌, sym, ap, ◌∙◌}
 use mathlib.Core.Bool.{Bool, true, false, cond, ◌&&◌}
 use mathlib.Core.List.{List}
@@ -8,16 +8,15 @@ use native.Mathlib.Omega.{arith}
 use borrow.Author.Tests.{eq-eqb, ne_eqb}
 use lib.Dec.{eqb, leb}
 use lib.ListN.{length, take, length-take}
+use Rattle.std.specs.Prelude.{Some, None}
+use Rattle.std.proofs.lemmas.Option.{none-some, same_Some}
 use Rattle.counter.specs.declared.verdict.Answer as counter
-use Rattle.card.specs.declared.Read.{Read}
-use Rattle.card.specs.declared.Answer.{Answer}
 use Rattle.card.specs.Cards.{Card, card, formed, Shows}
-use Rattle.card.specs.Inside.{CardAt}
-use Rattle.card.specs.declared.reading.Head.{Head}
-use Rattle.card.specs.Answers.{limit_fault, fault_of, refused, answer_of, chip_refused, chip_answer_of}
-use Rattle.card.specs.Doors.{card_in, in_places, laid_out, read, unread, read_of, Told, shown, not_shown}
+use Rattle.card.specs.declared.Card as held
+use Rattle.card.specs.Answers.{Answer, limit_fault, fault_of, refused, answer_of, chip_refused, chip_answer_of}
+use Rattle.card.specs.Doors.{card_in, in_places, laid_out, Read, read, unread, read_of, Told, shown, not_shown}
 use Rattle.card.proofs.RunLaws.{in_form_lem, fault_none}
-use Rattle.card.proofs.RowLaws.{row_in, row_cut, speeds_take}
+use Rattle.card.proofs.RowLaws.{row_in, row_past, speeds_take}
 use Rattle.counter.proofs.RangeTests.{hold_both}
 use Rattle.card.proofs.AnswerLaws.{answer_refused}
 
@@ -50,21 +49,26 @@ module _ (c : Card) where
       go true false five = omega (arith, five)
       go false few five = omega (arith, five)
 
+-- what was read of a text: the card that it shows, laid out in its places, or none
+pub told_some : {text : List ℕ} {h : held.Card} → Told text (λ c. Some (laid_out c)) None (Some h) → (c : Card) × Shows text c × (h ≡ laid_out c)
+told_some (shown c shows is) = (c, shows, same_Some _ _ is)
+told_some (not_shown none is) = absurd (none-some _ (sym is))
+
 -- the text of a card that is refused, and of one that is not
-module _ {text : List ℕ} {c : Card} (shows : Shows text c) {runs code : ℕ} (long : runs_in c ≡ runs) (is : code ≡ limit_fault c.allowed runs) where
-  same_fault : code ≡ fault_of (runs_in c) c
-  same_fault = is ∙ sym (ap (limit_fault c.allowed) long) ∙ sym (fault_formed (runs_in c) c shows.formed)
+module _ {text : List ℕ} {h : held.Card} (reads : Told text (λ c. Some (laid_out c)) None (Some h)) {code : ℕ} (is : code ≡ limit_fault h.allowed h.runs) where
+  same_fault : (c : Card) → Shows text c → h ≡ laid_out c → code ≡ fault_of (runs_in c) c
+  same_fault c shows laid = is ∙ ap (λ (x : held.Card). limit_fault x.allowed x.runs) laid ∙ sym (fault_formed (runs_in c) c shows.formed)
 
-  pub told_refused : (code ≡ 0 → ⊥) → {r : Read} → r ≡ unread code → Told text read_of (unread 5) r
-  told_refused fault answers =
-      shown c shows (answers ∙ ap unread same_fault ∙ sym (read_refused c (λ none. fault (same_fault ∙ none))))
+  pub told_refused : (code ≡ 0 → ⊥) → Told text read_of (unread 5) (unread code)
+  told_refused fault =
+      let (c, shows, laid) = told_some reads in
+      let same = same_fault c shows laid in
+      shown c shows (ap unread same ∙ sym (read_refused c (λ none. fault (same ∙ none))))
 
-  pub told_read : code ≡ 0 → {speeds turns : List ℕ} → speeds ≡ in_places c.speeds → turns ≡ in_places c.turns
-      → Told text read_of (unread 5) (record { code = 0; card = record { fitted = c.fitted; allowed = c.allowed; runs = runs; speeds = speeds; turns = turns } })
-  told_read none first second =
-      shown c shows
-      ((λ i. record { code = 0; card = record { fitted = c.fitted; allowed = c.allowed; runs = sym long i; speeds = first i; turns = second i } })
-      ∙ sym (read_good c (sym same_fault ∙ none)))
+  pub told_read : code ≡ 0 → Told text read_of (unread 5) (record { code = 0; card = h })
+  told_read none =
+      let (c, shows, laid) = told_some reads in
+      shown c shows (ap (λ (x : held.Card). record { code = 0; card = x }) laid ∙ sym (read_good c (sym (same_fault c shows laid) ∙ none)))
 
 -- a card that is laid out in its places is in them
 pub card_in_lem : (c : Card) → formed c ≡ true → runs_in c ≤ 64 → card_in (laid_out c) ≡ c
@@ -74,12 +78,11 @@ card_in_lem c form few =
     λ i. record { fitted = c.fitted; allowed = c.allowed; speeds = row_in c.speeds few i; turns = turns i }
 
 -- a card with more runs than places is refused, as are the runs in its places
-cut_fault : (c : Card) → formed c ≡ true → 64 < runs_in c
-    → fault_of (runs_in c) (card c.fitted c.allowed (take 64 (in_places c.speeds)) (take 64 (in_places c.turns))) ≡ fault_of (runs_in c) c
+cut_fault : (c : Card) → formed c ≡ true → 64 < runs_in c → fault_of (runs_in c) (card_in (laid_out c)) ≡ fault_of (runs_in c) c
 cut_fault c form many =
     let (even, all) = in_form_lem c form in
-    let speeds = row_cut c.speeds (omega arith) in
-    let turns = row_cut c.turns (omega arith) in
+    let speeds = row_past (runs_in c) c.speeds (omega arith) (omega arith) in
+    let turns = row_past (runs_in c) c.turns (omega arith) (omega arith) in
     let lengths : length (take 64 c.turns) ≡ length (take 64 c.speeds) = omega (arith, length-take 64 c.turns, length-take 64 c.speeds) in
     let cut = card c.fitted c.allowed (take 64 c.speeds) (take 64 c.turns) in
     rw (speeds, turns)
@@ -87,27 +90,21 @@ cut_fault c form many =
     ∙ sym (fault_formed (runs_in c) c form))
 
 -- what a card answers whose runs are in their places
-answer_laid : (c : Card) (held count : ℕ) → formed c ≡ true → held ≡ min (runs_in c) 64
-    → answer_of (runs_in c) (card c.fitted c.allowed (take held (in_places c.speeds)) (take held (in_places c.turns))) count ≡ answer_of (runs_in c) c count
-answer_laid c held count form is =
+answer_laid : (c : Card) (count : ℕ) → formed c ≡ true → answer_of (runs_in c) (card_in (laid_out c)) count ≡ answer_of (runs_in c) c count
+answer_laid c count form =
     elim (dec_le (runs_in c) 64) [
-      | yes few ↦
-          let all : held ≡ runs_in c = omega arith in
-          rw all (ap (λ d. answer_of (runs_in c) d count) (card_in_lem c form few))
+      | yes few ↦ ap (λ d. answer_of (runs_in c) d count) (card_in_lem c form few)
       | no many ↦
-          let cut : held ≡ 64 = omega arith in
           let same = cut_fault c form (omega arith) in
           let own : fault_of (runs_in c) c ≡ 0 → ⊥ = λ none. many (fault_none (runs_in c) c none).3 in
-          rw cut
-          (answer_refused (runs_in c) _ count (λ none. own (sym same ∙ none)) ∙ ap refused same ∙ sym (answer_refused (runs_in c) c count own))
+          answer_refused (runs_in c) _ count (λ none. own (sym same ∙ none)) ∙ ap refused same ∙ sym (answer_refused (runs_in c) c count own)
     ]
 
-pub told_answer : {text speeds turns : List ℕ} {head : Head} {held : ℕ} (count : ℕ) → CardAt text head speeds turns → held ≡ min head.runs 64
-    → {a : Answer} → a ≡ answer_of head.runs (card head.fitted head.allowed (take held speeds) (take held turns)) count
-    → Told text (λ c. answer_of (runs_in c) c count) (refused 5) a
-told_answer {head = head} {held = held} count at is answers =
-    let c = card head.fitted head.allowed at.rows.0 at.rows.1 in
-    shown c at.shows (answers ∙ rw (at.speeds_laid, at.turns_laid, ← at.long) (answer_laid c held count at.shows.formed (rw at.long is)))
+pub told_answer : {text : List ℕ} {h : held.Card} (count : ℕ) → Told text (λ c. Some (laid_out c)) None (Some h)
+    → {a : Answer} → a ≡ answer_of h.runs (card_in h) count → Told text (λ c. answer_of (runs_in c) c count) (refused 5) a
+told_answer count reads answers =
+    let (c, shows, laid) = told_some reads in
+    shown c shows (answers ∙ ap (λ (x : held.Card). answer_of x.runs (card_in x) count) laid ∙ answer_laid c count shows.formed)
 
 -- what is answered of a text, from what it was read as: by the card, or, where that is refused, by the number of the refusal
 module _ {A : Type 0} (of : ℕ → Card → A) (refuse : ℕ → A) (refuses : (runs : ℕ) (c : Card) → (fault_of runs c ≡ 0 → ⊥) → of runs c ≡ refuse (fault_of runs c))

@@ -14,10 +14,9 @@ use native.Mathlib.Omega.{arith}
 use borrow.Author.Tests.{le-ltb}
 use lib.ListN.{length, take, drop}
 use lib.Seq.{take-append_seam}
-use Rattle.card.specs.declared.Read.{Read}
 use Rattle.card.specs.Cards.{Card, formed, text_of, Fits, Shows}
 use Rattle.card.specs.Answers.{fault_of}
-use Rattle.card.specs.Doors.{card_in, Outcome, outcome, copied, write_of, read, unread, read_of, Told, shown, not_shown}
+use Rattle.card.specs.Doors.{card_in, Outcome, Read, outcome, copied, write_of, read, unread, read_of, Told, shown, not_shown}
 use Rattle.card.proofs.RunLaws.{no_fault, fault_none}
 use Rattle.card.proofs.ShowLaws.{shows_one}
 use Rattle.card.proofs.WriteLaws.{copied_short, write_refused, write_copied}

@@ -6,14 +6,13 @@ use mathlib.Core.List.{List, [], ◌∷◌, ◌++◌, flatten, append_assoc, app
 use native.Mathlib.Decide.{dec_le, ℕ_discrete}
 use native.Mathlib.Nat.{sub-zero}
 use native.Mathlib.Omega.{arith}
-use lib.ListN.{length, take, drop, get_or, set, replicate, length-append, length-take, length-set, length-replicate, get_or-replicate, get_or-append, get_or-eq_default}
-use lib.Seq.{take-take, take-append_seam, take-append-le, get_or-take, get_or-append-add, get_or-append_seam, get_or-set_same, get_or-set_other, ext_get_or}
-use Rattle.text.specs.Reading.{Found}
-use Rattle.text.proofs.Forms.{found_within}
+use lib.ListN.{length, take, get_or, set, replicate, length-append, length-take, length-set, length-replicate, get_or-replicate, get_or-append, get_or-eq_default}
+use lib.Seq.{take_all, take-take, take-append_seam, take-append-le, get_or-take, get_or-append-add, get_or-append_seam, get_or-set_same, get_or-set_other, ext_get_or}
+use Rattle.text.specs.Reading.{Found, Nowhere}
 use Rattle.counter.proofs.RangeTests.{both_hold, hold_both}
 use Rattle.card.specs.Cards.{run_texts, is_speed, all_speeds}
 use Rattle.card.specs.Doors.{in_places}
-use Rattle.card.specs.Inside.{run_form, IsRun, rows_form, AreRuns, RowsAt}
+use Rattle.card.specs.Inside.{run_form, IsRun, rows_form, AreRuns}
 use Rattle.card.proofs.ReadLaws.{run_ends}
 
 -- the places of a row: 64, the first of them the row's
@@ -38,9 +37,10 @@ pub row_in : (row : List ℕ) → length row ≤ 64 → take (length row) (in_pl
 unfolding in_places
 row_in row few = take-take (length row) 64 (row ++ replicate 64 0) few ∙ take-append_seam row (replicate 64 0)
 
-pub row_cut : (row : List ℕ) → 64 ≤ length row → take 64 (in_places row) ≡ take 64 row
+pub row_past : (runs : ℕ) (row : List ℕ) → 64 ≤ length row → 64 ≤ runs → take runs (in_places row) ≡ take 64 row
 unfolding in_places
-row_cut row many = take-take 64 64 (row ++ replicate 64 0) (omega arith) ∙ take-append-le 64 row (replicate 64 0) many
+row_past runs row many past =
+    take_all runs (in_places row) (omega (arith, length_places row)) ∙ take-append-le 64 row (replicate 64 0) many
 
 -- one more, where there is a place for it
 places_more : (row : List ℕ) (value : ℕ) → set (in_places row) (length row) value ≡ in_places (row ++ (value ∷ []))
@@ -122,104 +122,75 @@ are_more runs (speeds, turns) (speed, turn) are (right, small) = record {
   small = small_more turns turn are.small small;
 }
 
--- so many of the runs were read: those stand before the next index, laid into their places, and whatever runs stand there, all but these
--- stand behind it
-pub record Passed (text : List ℕ) (at runs done next : ℕ) (speeds turns : List ℕ) : Type 0 where
-  pub most : done ≤ runs
-  pub some : 0 < next
-  pub within : next ≤ length text
+-- so many of the runs were read: those stand before what is left of the text, laid into their places, and whatever runs stand there, all
+-- but these stand behind it
+pub record Passed (text : List ℕ) (runs done : ℕ) (left speeds turns : List ℕ) : Type 0 where
   pub rows : List ℕ × List ℕ
   pub are : AreRuns done rows
-  pub ends : next ≡ at + length (rows_form rows)
-  pub stands : drop at text ≡ rows_form rows ++ drop next text
-  pub behind : (all : List ℕ × List ℕ) → AreRuns runs all → (rest : List ℕ) → drop at text ≡ rows_form all ++ rest
-      → (others : List ℕ × List ℕ) × AreRuns (runs - done) others × (drop next text ≡ rows_form others ++ rest)
+  pub stands : text ≡ rows_form rows ++ left
+  pub behind : (all : List ℕ × List ℕ) → AreRuns runs all → (rest : List ℕ) → text ≡ rows_form all ++ rest
+      → (others : List ℕ × List ℕ) × AreRuns (runs - done) others × (left ≡ rows_form others ++ rest)
   pub speeds_laid : speeds ≡ in_places rows.0
   pub turns_laid : turns ≡ in_places rows.1
 
 -- none at first
-pub passed_none : {text : List ℕ} {at runs : ℕ} → 0 < at → at ≤ length text → Passed text at runs 0 at (in_places []) (in_places [])
+pub passed_none : {text : List ℕ} (runs : ℕ) → Passed text runs 0 text (in_places []) (in_places [])
 unfolding run_texts flatten all_speeds
-passed_none {runs = runs} some within = record {
-  most = omega arith;
-  some = some;
-  within = within;
+passed_none runs = record {
   rows = ([], []);
   are = record { speeds = refl; turns = refl; right = refl; small = λ k. omega arith };
-  ends = omega arith;
   stands = refl;
   behind = λ all are rest is. (all, rw (sub-zero runs) are, is);
   speeds_laid = refl;
   turns_laid = refl;
 }
 
-module _ {text : List ℕ} {at runs done next : ℕ} {speeds turns : List ℕ} (passed : Passed text at runs done next speeds turns) where
+module _ {text : List ℕ} {runs done : ℕ} {left speeds turns : List ℕ} (passed : Passed text runs done left speeds turns) where
   -- one more is left, the first of those that stand behind
-  next_run : done < runs → (all : List ℕ × List ℕ) → AreRuns runs all → (rest : List ℕ) → drop at text ≡ rows_form all ++ rest
-      → (run : ℕ × ℕ) × (others : List ℕ × List ℕ) × IsRun run × AreRuns (runs - (done + 1)) others × (drop next text ≡ run_form run ++ (rows_form others ++ rest))
+  next_run : done < runs → (all : List ℕ × List ℕ) → AreRuns runs all → (rest : List ℕ) → text ≡ rows_form all ++ rest
+      → (run : ℕ × ℕ) × (others : List ℕ × List ℕ) × IsRun run × AreRuns (runs - (done + 1)) others × (left ≡ run_form run ++ (rows_form others ++ rest))
   next_run more all are rest is =
-      let (left, are-left, stands) = passed.behind all are rest is in
+      let (these, are-left, stands) = passed.behind all are rest is in
       let one : runs - done ≡ suc (runs - (done + 1)) = omega arith in
-      first left (rw one at are-left) stands
+      first these (rw one at are-left) stands
     where
-      first : (left : List ℕ × List ℕ) → AreRuns (suc (runs - (done + 1))) left → drop next text ≡ rows_form left ++ rest
-          → (run : ℕ × ℕ) × (others : List ℕ × List ℕ) × IsRun run × AreRuns (runs - (done + 1)) others × (drop next text ≡ run_form run ++ (rows_form others ++ rest))
+      first : (these : List ℕ × List ℕ) → AreRuns (suc (runs - (done + 1))) these → left ≡ rows_form these ++ rest
+          → (run : ℕ × ℕ) × (others : List ℕ × List ℕ) × IsRun run × AreRuns (runs - (done + 1)) others × (left ≡ run_form run ++ (rows_form others ++ rest))
       first ([], turns) are stands = absurd (omega (arith, are.speeds))
       first (speed ∷ speeds, []) are stands = absurd (omega (arith, are.turns))
       first (speed ∷ speeds, turn ∷ turns) are stands =
           let (right, others) = first_are (runs - (done + 1)) are in
           ((speed, turn), (speeds, turns), right, others, stands ∙ first_form speed turn speeds turns rest)
 
-  module _ (more : done < runs) {run : ℕ × ℕ} {past : ℕ} (found : Found run_form IsRun text next run past) where
+  module _ (more : done < runs) where
     -- no run stands there
-    pub passed_stuck : past ≡ 0 → RowsAt text at runs 0 speeds turns
-    passed_stuck none = record {
-      rows = passed.rows;
-      found = record {
-        there = λ some. absurd (omega arith);
-        none = λ _ all are rest is.
-            let (run, others, right, _, stands) = next_run more all are rest is in
-            found.none none run right (rows_form others ++ rest) stands;
-      };
-      speeds_laid = λ some. absurd (omega arith);
-      turns_laid = λ some. absurd (omega arith);
+    pub passed_stuck : Nowhere run_form IsRun left → Nowhere rows_form (AreRuns runs) text
+    passed_stuck nowhere = record {
+      none = λ all are rest is.
+          let (run, others, right, _, stands) = next_run more all are rest is in
+          nowhere.none run right (rows_form others ++ rest) stands;
     }
 
     -- a run stands there
-    pub passed_more : 0 < past → Passed text at runs (done + 1) past (set speeds done run.0) (set turns done run.1)
-    passed_more some =
-        let (right, ends, stands) = found.there some in
+    pub passed_more : {run : ℕ × ℕ} {past : List ℕ} → Found run_form IsRun left run past
+        → Passed text runs (done + 1) past (set speeds done run.0) (set turns done run.1)
+    passed_more {run} {past} found =
         let (speeds-before, turns-before) = passed.rows in
         let form = texts_more speeds-before turns-before run.0 run.1 (passed.are.turns ∙ sym passed.are.speeds) in
         record {
-          most = omega arith;
-          some = some;
-          within = found_within found passed.within some;
           rows = with_run passed.rows run;
-          are = are_more done passed.rows run passed.are right;
-          ends = omega (arith, ends, passed.ends, ap length form, length-append (rows_form passed.rows) (run_form run));
+          are = are_more done passed.rows run passed.are found.right;
           stands = passed.stands
-              ∙ ap (λ l. rows_form passed.rows ++ l) stands
-              ∙ sym (append_assoc (rows_form passed.rows) (run_form run) (drop past text))
-              ∙ ap (λ l. l ++ drop past text) (sym form);
-          behind = λ all are rest is. past_run rest right stands (next_run more all are rest is);
+              ∙ ap (λ l. rows_form passed.rows ++ l) found.stands
+              ∙ sym (append_assoc (rows_form passed.rows) (run_form run) past)
+              ∙ ap (λ l. l ++ past) (sym form);
+          behind = λ all are rest is. past_run rest (next_run more all are rest is);
           speeds_laid = ap (λ l. set l done run.0) passed.speeds_laid ∙ rw (sym passed.are.speeds) (places_more speeds-before run.0);
           turns_laid = ap (λ l. set l done run.1) passed.turns_laid ∙ rw (sym passed.are.turns) (places_more turns-before run.1);
         }
       where
-        past_run : (rest : List ℕ) → IsRun run → drop next text ≡ run_form run ++ drop past text
-            → (other : ℕ × ℕ) × (others : List ℕ × List ℕ) × IsRun other × AreRuns (runs - (done + 1)) others × (drop next text ≡ run_form other ++ (rows_form others ++ rest))
-            → (others : List ℕ × List ℕ) × AreRuns (runs - (done + 1)) others × (drop past text ≡ rows_form others ++ rest)
-        past_run rest right stands (other, others, right', are, is) =
-            (others, are, (run_ends.same run other (drop past text) (rows_form others ++ rest) right right' (sym stands ∙ is)).1)
-
-  -- all were read
-  pub passed_all : runs ≤ done → RowsAt text at runs next speeds turns
-  passed_all least =
-      let all : done ≡ runs = omega (arith, passed.most) in
-      record {
-        rows = passed.rows;
-        found = record { there = λ some. (rw all at passed.are, passed.ends, passed.stands); none = λ zero. absurd (omega (arith, passed.some)) };
-        speeds_laid = λ _. passed.speeds_laid;
-        turns_laid = λ _. passed.turns_laid;
-      }
+        past_run : (rest : List ℕ)
+            → (other : ℕ × ℕ) × (others : List ℕ × List ℕ) × IsRun other × AreRuns (runs - (done + 1)) others × (left ≡ run_form other ++ (rows_form others ++ rest))
+            → (others : List ℕ × List ℕ) × AreRuns (runs - (done + 1)) others × (past ≡ rows_form others ++ rest)
+        past_run rest (other, others, right, are, is) =
+            (others, are, (run_ends.same run other past (rows_form others ++ rest) found.right right (sym found.stands ∙ is)).1)

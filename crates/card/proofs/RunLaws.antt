@@ -1,4 +1,4 @@
--- The laws of runs: a row of speeds, tested one by one, and what runs add up to, one by one.
+-- The laws of runs: what they add up to, one by one, and their lines; and of a card in form.
 use Prim.Native.Nat.{ℕ, zero, suc, ◌+◌, ◌*◌, ◌≤◌, ◌<◌}
 use mathlib.Core.Path.{◌≡◌, refl, ap}
 use mathlib.Core.Bool.{Bool, true, false, cond, ◌&&◌}
@@ -10,25 +10,9 @@ use borrow.Author.Tests.{eqb-true, leb-true, le-leb}
 use lib.Dec.{eqb, leb}
 use lib.ListN.{length, drop, get_or, drop_of_length-le}
 use lib.Seq.{drop-cons}
-use Rattle.card.specs.Cards.{Card, is_speed, all_speeds, formed, run_text, run_texts}
+use Rattle.card.specs.Cards.{Card, all_speeds, formed, run_text, run_texts}
 use Rattle.counter.proofs.RangeTests.{both_hold}
 use Rattle.card.specs.Answers.{limit_fault, fault_of, total, per_turn, time_of}
-
-module _ (speeds : List ℕ) (at : ℕ) where
-  -- none is left
-  pub speeds_end : length speeds ≤ at → all_speeds (drop at speeds) ≡ true
-  unfolding all_speeds
-  speeds_end past = rw (drop_of_length-le speeds past)
-
-  module _ (inside : at < length speeds) where
-    -- the next is a speed, or is none
-    pub speeds_next : is_speed (get_or speeds at 0) ≡ true → all_speeds (drop at speeds) ≡ all_speeds (drop (at + 1) speeds)
-    unfolding all_speeds
-    speeds_next is = rw (drop-cons speeds at 0 inside, is, add-one)
-
-    pub speeds_fail : is_speed (get_or speeds at 0) ≡ false → all_speeds (drop at speeds) ≡ false
-    unfolding all_speeds
-    speeds_fail is = rw (drop-cons speeds at 0 inside, is)
 
 -- what the runs that are left add up to, and none
 module _ (speeds turns : List ℕ) (at : ℕ) where

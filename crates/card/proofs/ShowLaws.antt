@@ -1,17 +1,17 @@
 -- What a text shows: the whole of a card as one form, which ends by itself, so that no text shows two cards.
-use Prim.Native.Nat.{ℕ, zero, suc, ◌≤◌, ◌<◌, zero-le}
+use Prim.Native.Nat.{ℕ, zero, suc, ◌≤◌}
 use mathlib.Core.Path.{◌≡◌, refl, sym, ap, ◌∙◌}
-use mathlib.Core.List.{List, [], ◌∷◌, ◌++◌, append-nil, append_assoc, flatten}
-use native.Mathlib.Decide.{dec_le}
+use mathlib.Core.List.{List, [], ◌∷◌, ◌++◌, append-nil, flatten}
 use native.Mathlib.Omega.{arith}
 use borrow.Author.Tests.{eq-eqb}
-use lib.ListN.{length, drop, drop_of_length-le, length-drop}
-use Rattle.text.specs.Reading.{Found, both, Both}
-use Rattle.text.proofs.Forms.{Ends, ends_then, found_within, found_then}
+use lib.ListN.{length, drop_of_length-le}
+use Rattle.std.specs.Prelude.{Some, None}
+use Rattle.text.specs.Reading.{Found, Nowhere, both, Both}
+use Rattle.text.proofs.Forms.{Ends, ends_then, found_then, nowhere_first, nowhere_then}
 use Rattle.counter.proofs.RangeTests.{hold_both}
 use Rattle.card.specs.Cards.{Card, card, run_texts, text_of, Shows}
-use Rattle.card.specs.Inside.{head_form, SmallHead, rows_form, AreRuns, RowsAt, WholeAt}
-use Rattle.card.specs.declared.reading.Head.{Head}
+use Rattle.card.specs.Doors.{laid_out, Told, shown as told_shown}
+use Rattle.card.specs.Inside.{head_form, SmallHead, rows_form, AreRuns, RowsAt}
 use Rattle.card.proofs.RunLaws.{in_form_lem}
 use Rattle.card.proofs.ReadLaws.{head_ends, run_ends}
 use Rattle.card.proofs.RowLaws.{first_are, first_form}
@@ -82,64 +82,41 @@ shows_one {text} {c} {d} one two =
     let (second, is') = whole_shown two in
     ap (λ (p : Parts). card p.0.0.0 p.0.0.1 p.1.0 p.1.1) (whole_ends.same (parts_of c) (parts_of d) [] [] first second (sym is ∙ is')).0
 
--- what was read from the start of a text, and the card that it shows, or that it shows none
-module _ {text : List ℕ} {fitted allowed runs next : ℕ} (head : Found head_form SmallHead text 0 ((fitted, allowed), runs) next) where
-  no_head : next ≡ 0 → (c : Card) → Shows text c → ⊥
-  no_head none c shows =
+-- a text that shows no card: it does not begin with the lines before the runs
+pub headless : {text : List ℕ} → Nowhere head_form SmallHead text → (c : Card) → Shows text c → ⊥
+headless nowhere c shows =
+    let (whole, is) = whole_shown shows in
+    (nowhere_first head_form SmallHead (λ head. rows_form) (λ head. AreRuns head.1) nowhere).none (parts_of c) whole [] is
+
+module _ {text : List ℕ} {fitted allowed runs : ℕ} {behind : List ℕ} (head : Found head_form SmallHead text ((fitted, allowed), runs) behind) where
+  -- or not so many runs stand behind these
+  pub runless : Nowhere rows_form (AreRuns runs) behind → (c : Card) → Shows text c → ⊥
+  runless nowhere c shows =
       let (whole, is) = whole_shown shows in
-      head.none none (parts_of c).0 whole.0 (rows_form (c.speeds, c.turns) ++ [])
-      (is ∙ append_assoc (head_form (parts_of c).0) (rows_form (c.speeds, c.turns)) [])
+      (nowhere_then head_form SmallHead (λ head. rows_form) (λ head. AreRuns head.1) head head_ends nowhere).none (parts_of c) whole [] is
 
-  module _ (some : 0 < next) {rows : List ℕ × List ℕ} {past : ℕ} (found : Found rows_form (AreRuns runs) text next rows past) where
-    whole_found : Found whole_form Whole text 0 (((fitted, allowed), runs), rows) past
-    whole_found = found_then head_form SmallHead (λ head. rows_form) (λ head. AreRuns head.1) head head_ends some found
+  module _ {rest speeds turns : List ℕ} (read : RowsAt behind runs rest speeds turns) where
+    whole_found : Found whole_form Whole text (((fitted, allowed), runs), read.rows) rest
+    whole_found = found_then head_form SmallHead (λ head. rows_form) (λ head. AreRuns head.1) head read.found
 
-    -- all of the text was read
-    shown : past ≡ length text → Shows text (card fitted allowed rows.0 rows.1) × (length rows.0 ≡ runs)
-    shown end =
-        let (whole, _, is) = whole_found.there (omega (arith, found_within head zero-le some)) in
-        let are = whole.1 in
-        let least : length text ≤ past = omega arith in (
-          record {
-            formed = hold_both _ _ (eq-eqb _ _ (are.turns ∙ sym are.speeds)) are.right;
-            fits = record { fitted = whole.0.0.0; allowed = whole.0.0.1; runs = rw are.speeds whole.0.1; turns = are.small };
-            written = is ∙ ap (λ l. whole_form (((fitted, allowed), runs), rows) ++ l) (drop_of_length-le text least) ∙ as_text are.speeds;
-          },
-          are.speeds,
-        )
-      where
-        as_text : length rows.0 ≡ runs → whole_form (((fitted, allowed), runs), rows) ++ [] ≡ text_of (card fitted allowed rows.0 rows.1)
-        as_text same = append-nil (whole_form (((fitted, allowed), runs), rows)) ∙ text_form fitted allowed runs rows same
-
-    -- not all of it was
-    not_all : (past ≡ length text → ⊥) → (c : Card) → Shows text c → ⊥
-    not_all other c shows =
+    -- or more stands behind the runs
+    pub not_all : (length rest ≡ 0 → ⊥) → (c : Card) → Shows text c → ⊥
+    not_all more c shows =
         let (whole, is) = whole_shown shows in
-        elim (dec_le 1 past) [
-          | yes some' ↦
-              let (right, _, stands) = whole_found.there some' in
-              let behind = (whole_ends.same (((fitted, allowed), runs), rows) (parts_of c) (drop past text) [] right whole (sym stands ∙ is)).1 in
-              other (omega (arith, ap length behind, length-drop past text, found_within found (found_within head zero-le some) some'))
-          | no none ↦ whole_found.none (omega arith) (parts_of c) whole [] is
-        ]
+        let end = (whole_ends.same (((fitted, allowed), runs), read.rows) (parts_of c) rest [] whole_found.right whole (sym whole_found.stands ∙ is)).1 in
+        more (ap length end)
 
--- all of a text was read, or not
-whole_none : {text speeds turns : List ℕ} {head : Head} → head.next ≡ 0 → ((c : Card) → Shows text c → ⊥) → WholeAt text head speeds turns
-whole_none no-next none = record { there = λ some. absurd (omega arith); none = λ _. none }
-
-module _ {text speeds turns : List ℕ} {head : Head} (found : Found head_form SmallHead text 0 ((head.fitted, head.allowed), head.runs) head.next) where
-  pub whole_headless : head.next ≡ 0 → WholeAt text head speeds turns
-  whole_headless no-next = whole_none no-next (no_head found no-next)
-
-  module _ (some : 0 < head.next) {past : ℕ} (read : RowsAt text head.next head.runs past speeds turns) where
-    pub whole_cut : (past ≡ length text → ⊥) → {other : Head} → other.next ≡ 0 → WholeAt text other speeds turns
-    whole_cut end no-next = whole_none no-next (not_all found some read.found end)
-
-    pub whole_read : past ≡ length text → WholeAt text head speeds turns
-    whole_read end = record {
-      there = λ _.
-          let (shows, long) = shown found some read.found end in
-          let ends : 0 < past = omega (arith, found_within found zero-le some) in
-          record { rows = read.rows; shows = shows; long = long; speeds_laid = read.speeds_laid ends; turns_laid = read.turns_laid ends };
-      none = λ zero. absurd (omega arith);
-    }
+    -- all of the text was read, and it shows the card
+    pub all_read : length rest ≡ 0
+        → Told text (λ c. Some (laid_out c)) None (Some (record { fitted = fitted; allowed = allowed; runs = runs; speeds = speeds; turns = turns }))
+    all_read end =
+        let are = read.found.right in
+        let short : length rest ≤ 0 = omega arith in
+        let none : rest ≡ [] = drop_of_length-le rest short in
+        told_shown (card fitted allowed read.rows.0 read.rows.1)
+        (record {
+          formed = hold_both _ _ (eq-eqb _ _ (are.turns ∙ sym are.speeds)) are.right;
+          fits = record { fitted = head.right.0.0; allowed = head.right.0.1; runs = rw are.speeds head.right.1; turns = are.small };
+          written = whole_found.stands ∙ ap (λ l. whole_form (((fitted, allowed), runs), read.rows) ++ l) none ∙ append-nil _ ∙ text_form fitted allowed runs read.rows are.speeds;
+        })
+        (λ i. Some (record { fitted = fitted; allowed = allowed; runs = sym are.speeds i; speeds = read.speeds_laid i; turns = read.turns_laid i }))

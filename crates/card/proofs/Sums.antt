@@ -11,9 +11,8 @@ use lib.Dec.{eqb}
 use lib.IntN.{pos, ◌+ℤ◌, ◌-ℤ◌, +ℤ_comm, -ℤ-+ℤ_cancel}
 use lib.ListN.{length}
 use Rattle.counter.proofs.RangeTests.{both_hold}
-use Rattle.card.specs.declared.Answer.{Answer}
 use Rattle.card.specs.Cards.{Card, is_speed, all_speeds}
-use Rattle.card.specs.Answers.{fault_of, total, per_turn, time_of, answer, answer_of}
+use Rattle.card.specs.Answers.{Answer, fault_of, total, per_turn, time_of, answer, answer_of}
 use Rattle.card.specs.Sums.{turns_at}
 use Rattle.card.proofs.RunLaws.{in_form_lem, fault_none}
 use Rattle.card.proofs.WriteLaws.{two_speeds}

@@ -1,5 +1,5 @@
 -- The laws of writing a card: how long its lines are, and what writing it leaves.
-use Prim.Native.Nat.{ℕ, suc, ◌+◌, ◌/◌, ◌≤◌, ◌<◌}
+use Prim.Native.Nat.{ℕ, suc, ◌+◌, ◌*◌, ◌/◌, ◌^◌, ◌≤◌, ◌<◌}
 use mathlib.Core.Path.{◌≡◌, refl, sym, ap, ◌∙◌}
 use mathlib.Core.Bool.{Bool, true, false, ◌||◌, true≢false}
 use mathlib.Core.List.{List, [], ◌∷◌, ◌++◌, flatten}
@@ -8,10 +8,11 @@ use borrow.Author.Tests.{eqb-true, lt-ltb, le-ltb, eq-eqb, ne_eqb}
 use lib.Dec.{eqb, lit<, lit≤}
 use native.Mathlib.Nat.{zero-add}
 use native.Mathlib.Numerals.{add-one}
-use lib.ListN.{length, drop, get_or, length-append, drop_of_length-le}
+use lib.ListN.{length, drop, get_or, length-append}
 use lib.Seq.{drop-cons}
 use Rattle.text.specs.Text.{bytes_of, decimal, Wrote}
-use Rattle.text.proofs.Decimals.{length_small, length_more}
+use Rattle.std.proofs.lemmas.List.Sums.{sum_by-cons}
+use Rattle.text.proofs.Decimals.{length_small, length_more, length_u32}
 use Rattle.text.proofs.Writing.{length_line}
 use Rattle.card.specs.Cards.{Card, fitted_line, allowed_line, runs_line, speed_line, turns_line, head_text, run_text, run_texts, text_of, is_speed, all_speeds, formed}
 use Rattle.card.specs.Answers.{fault_of}
@@ -63,7 +64,7 @@ length_run speed turns is =
     )
 
 length_runs : (speeds turns : List ℕ) → all_speeds speeds ≡ true → length turns ≡ length speeds → length (flatten (run_texts speeds turns)) ≡ runs_length turns
-unfolding run_texts flatten all_speeds runs_length
+unfolding run_texts flatten all_speeds
 length_runs [] [] all even = refl
 length_runs [] (turn ∷ turns) all even = absurd (omega arith)
 length_runs (speed ∷ speeds) [] all even = absurd (omega arith)
@@ -74,6 +75,7 @@ length_runs (speed ∷ speeds) (turn ∷ turns) all even =
       length-append (run_text speed turn) (flatten (run_texts speeds turns)),
       length_run speed turn right,
       length_runs speeds turns rest (omega arith),
+      sum_by-cons run_length turn turns,
     )
 
 pub text_lines : (c : Card)
@@ -88,15 +90,11 @@ length_text c form =
     let (even, all) = in_form_lem c form in
     omega (arith, text_lines c, length_runs c.speeds c.turns all even)
 
--- the lengths that are left, one run after another
-module _ (turns : List ℕ) (at : ℕ) where
-  pub lengths_end : length turns ≤ at → runs_length (drop at turns) ≡ 0
-  unfolding runs_length
-  lengths_end past = rw (drop_of_length-le turns past)
-
-  pub lengths_next : at < length turns → runs_length (drop at turns) ≡ run_length (get_or turns at 0) + runs_length (drop (at + 1) turns)
-  unfolding runs_length
-  lengths_next inside = rw (drop-cons turns at 0 inside, add-one)
+-- no more than 36 signs for a run
+pub lengths_most : (turns : List ℕ) → ((k : ℕ) → get_or turns k 0 < 2 ^ 32) → runs_length turns ≤ length turns * 36
+lengths_most [] small = omega arith
+lengths_most (turn ∷ turns) small =
+    omega (arith, sum_by-cons run_length turn turns, length_u32 turn (small 0), lengths_most turns (λ k. small (suc k)))
 
 -- the lines of the runs that are left, those of the next one first
 pub lines_next : (speeds turns : List ℕ) (at : ℕ) → length turns ≡ length speeds → at < length speeds

@@ -1,4 +1,5 @@
 pub mod Cards
+pub mod Refusals
 pub mod Answers
 pub mod Doors
 pub mod Sums

@@ -2,24 +2,27 @@
 #![tactic(auto)]
 
 mod answering;
+mod held;
 mod reading;
 mod runs;
 mod writing;
 
-ghost use Rattle.std.specs.Prelude.{min, ◌≡◌, length};
+ghost use Rattle.std.specs.Prelude.{◌≡◌, length};
 ghost use Rattle.card.specs.Cards.{card as of_rows};
 ghost use Rattle.counter.specs.Layout.{two};
-ghost use Rattle.counter.specs.Places.{places};
 ghost use Rattle.counter.specs.Doors.{read_of as counted};
-ghost use Rattle.card.specs.Answers.{fault_of, refused, answer_of, chip_answer_of};
-ghost use Rattle.card.specs.Doors.{card_in, outcome, write_of, unread, read_of, Told};
+ghost use Rattle.card.specs.Refusals.{number};
+ghost use Rattle.card.specs.Answers.{refused, answered, answered_chip, answer_of, chip_answer_of};
+ghost use Rattle.card.specs.Doors.{card_in, left_by, write_of, unread, card_read, read_of, Told};
+ghost use Rattle.card.specs.Inside.{empty};
 
-use answering::{answer_held, refusal};
+use counter::places::Places;
+use held::Held;
 use reading::read_whole;
-use runs::{fault_of, limit_fault};
-use writing::write_held;
+use runs::within_limits;
 
-// A card, by value. Of the 64 places those before `runs` have a run: the speed, 33 or 45, that it was cut at, and its turns.
+// A card, by value. Of the 64 places those before `runs` have a run: the speed, 33 or 45, that it was cut at, and its turns. Two rows, and
+// no row of runs, since C lends two, and `card_in` and `laid_out` of specs speak of two.
 #[derive(Clone, Copy)]
 pub struct Card {
     pub fitted: u32,
@@ -29,62 +32,60 @@ pub struct Card {
     pub turns: [u32; 64],
 }
 
-// What reading a text answers: 0 or the number of the refusal, and the card.
-#[derive(Clone, Copy)]
-pub struct Read {
-    pub code: u32,
-    pub card: Card,
+// Why a card or its text is refused.
+#[derive(Clone, Copy, Debug, PartialEq, Eq)]
+pub enum Refusal {
+    // The turns that are allowed are fewer than 1, or more than 1000000.
+    AllowanceOutOfRange,
+    // The count is below the one when it was fitted.
+    CountBelowFitted,
+    // The runs do not add up to the turns used.
+    RunsApart,
+    // There are more than 64 runs.
+    TooManyRuns,
+    // The text or the card is not in form.
+    NotInForm,
+    // The room for the text is too short.
+    RoomTooShort,
 }
 
-// What writing a card answers: 0 or the number of the refusal, and how long the text is.
-#[derive(Clone, Copy)]
-pub struct Written {
-    pub code: u32,
-    pub length: usize,
+// The number that C and people are told.
+impl From<Refusal> for u32 {
+    ghost from_gives = { λ refusal n. n ≡ number refusal };
+
+    fn from(refusal: Refusal) -> u32 {
+        match refusal {
+            Refusal::AllowanceOutOfRange => 1,
+            Refusal::CountBelowFitted => 2,
+            Refusal::RunsApart => 3,
+            Refusal::TooManyRuns => 4,
+            Refusal::NotInForm => 5,
+            Refusal::RoomTooShort => 6,
+        }
+    }
 }
 
-// What a card answers at a count: 0 or the number of the refusal, turns used and turns left, and the cutting time in fifteenths of
-// a second.
+// What a card answers at a count: turns used and turns left, and the cutting time in fifteenths of a second.
 #[derive(Clone, Copy)]
-pub struct Answer {
-    pub code: u32,
+pub struct Wear {
     pub used: u32,
     pub left: i64,
     pub time: u64,
 }
 
-// The same at the count of a chip, with the code of its read.
+// The same at the count of a chip, with the code of its read, a number as the counter answers it. Where that is not 0 there is no count,
+// and the wear is zeros, unless the card itself is refused.
 #[derive(Clone, Copy)]
 pub struct ChipAnswer {
     pub read: u32,
-    pub answer: Answer,
+    pub answer: Result<Wear, Refusal>,
 }
 
-// How many of the 64 places of a card have a run.
-fn places_held(runs: usize) -> usize
-    ensures { result ≡ min runs 64 }
+// Writes a card as its text at the start of a lent one, and answers how long that is.
+pub fn write_card(card: Card, text: &mut [u8]) -> Result<usize, Refusal>
+    ensures { left_by result text.new ≡ write_of card.runs (card_in card) text.old }
 {
-    if runs < 64 {
-        return runs;
-    }
-    64
-}
-
-// Writes a card as its text at the start of a lent one.
-pub fn write_card(card: Card, text: &mut [u8]) -> Written
-    ensures { outcome result.code result.length text.new ≡ write_of card.runs (card_in card) text.old }
-{
-    let speeds = card.speeds;
-    let turns = card.turns;
-    let held = places_held(card.runs);
-    write_held(
-        card.fitted,
-        card.allowed,
-        &speeds[..held],
-        &turns[..held],
-        card.runs,
-        text,
-    )
+    card.held().write(text)
 }
 
 // Writes a card whose runs stand in two lent rows.
@@ -94,114 +95,71 @@ pub fn write_rows(
     speeds: &[u32],
     turns: &[u32],
     text: &mut [u8],
-) -> Written
-    ensures { outcome result.code result.length text.new ≡ write_of (length speeds.now) (of_rows fitted allowed speeds.now turns.now) text.old }
+) -> Result<usize, Refusal>
+    ensures { left_by result text.new ≡ write_of (length speeds.now) (of_rows fitted allowed speeds.now turns.now) text.old }
 {
-    write_held(fitted, allowed, speeds, turns, speeds.len(), text)
+    let held = Held {
+        fitted,
+        allowed,
+        runs: speeds.len(),
+        speeds,
+        turns,
+    };
+    held.write(text)
 }
 
 // What a card answers at a count.
-pub fn answer_at(card: Card, count: u32) -> Answer
-    ensures { result ≡ answer_of card.runs (card_in card) count }
+pub fn answer_at(card: Card, count: u32) -> Result<Wear, Refusal>
+    ensures { answered result ≡ answer_of card.runs (card_in card) count }
 {
-    let speeds = card.speeds;
-    let turns = card.turns;
-    let held = places_held(card.runs);
-    answer_held(
-        card.fitted,
-        card.allowed,
-        &speeds[..held],
-        &turns[..held],
-        card.runs,
-        count,
-    )
+    card.held().answer(count)
 }
 
-// No card, for a text that is refused.
-fn no_card(code: u32) -> Read
-    ensures { result ≡ unread code }
+// A card with no runs.
+fn empty() -> Card
+    ensures { result ≡ empty }
 {
-    let row = [0u32; 64];
-    Read {
-        code,
-        card: Card {
-            fitted: 0,
-            allowed: 0,
-            runs: 0,
-            speeds: row,
-            turns: row,
-        },
+    Card {
+        fitted: 0,
+        allowed: 0,
+        runs: 0,
+        speeds: [0; 64],
+        turns: [0; 64],
     }
 }
 
 // Reads a text as a card.
-pub fn read_card(text: &[u8]) -> Read
-    ensures { Told text.now read_of (unread 5) result }
+pub fn read_card(text: &[u8]) -> Result<Card, Refusal>
+    ensures { Told text.now read_of (unread 5) (card_read result) }
 {
-    let mut speeds = [0u32; 64];
-    let mut turns = [0u32; 64];
-    let head = read_whole(text, &mut speeds, &mut turns);
-    if head.next == 0 {
-        return no_card(5);
-    }
-    let runs = head.runs as usize;
-    let code = limit_fault(head.allowed, runs);
-    if code != 0 {
-        return no_card(code);
-    }
-    Read {
-        code: 0,
-        card: Card {
-            fitted: head.fitted,
-            allowed: head.allowed,
-            runs,
-            speeds,
-            turns,
-        },
-    }
+    let mut card = empty();
+    let Some(()) = read_whole(text, &mut card) else {
+        return Err(Refusal::NotInForm);
+    };
+    within_limits(card.allowed, card.runs)?;
+    Ok(card)
 }
 
 // What the card that a text shows answers at a count.
-pub fn answer_of_text(text: &[u8], count: u32) -> Answer
-    ensures { Told text.now (λ c. answer_of (length c.speeds) c count) (refused 5) result }
+pub fn answer_of_text(text: &[u8], count: u32) -> Result<Wear, Refusal>
+    ensures { Told text.now (λ c. answer_of (length c.speeds) c count) (refused 5) (answered result) }
 {
-    let mut speeds = [0u32; 64];
-    let mut turns = [0u32; 64];
-    let head = read_whole(text, &mut speeds, &mut turns);
-    if head.next == 0 {
-        return refusal(5);
+    let mut card = empty();
+    match read_whole(text, &mut card) {
+        Some(()) => card.held().answer(count),
+        None => Err(Refusal::NotInForm),
     }
-    let runs = head.runs as usize;
-    let held = places_held(runs);
-    answer_held(
-        head.fitted,
-        head.allowed,
-        &speeds[..held],
-        &turns[..held],
-        runs,
-        count,
-    )
-}
-
-// What a card is refused for by itself.
-fn own_fault(card: Card) -> u32
-    ensures { result ≡ fault_of card.runs (card_in card) }
-{
-    let speeds = card.speeds;
-    let turns = card.turns;
-    let held = places_held(card.runs);
-    fault_of(card.allowed, &speeds[..held], &turns[..held], card.runs)
 }
 
 // What a card answers at the count of a chip.
-pub fn answer_of_chip(card: Card, image: &[u8], m: usize, s: usize, e: usize) -> ChipAnswer
-    ensures { result ≡ chip_answer_of card.runs (card_in card) (counted two (places m s e) image.now) }
+pub fn answer_of_chip(card: Card, image: &[u8], p: Places) -> ChipAnswer
+    ensures { answered_chip result ≡ chip_answer_of card.runs (card_in card) (counted two p image.now) }
 {
-    let found = counter::doors::read_count(image, m, s, e);
+    let found = counter::doors::read_count(image, p);
     if found.code != 0 {
         return ChipAnswer {
             read: found.code,
-            answer: refusal(own_fault(card)),
+            answer: card.held().unworn(),
         };
     }
     ChipAnswer {

@@ -3,7 +3,7 @@
 use super::bench::near_the_end;
 use super::chips::set;
 use super::lines::{say_again, say_answer, say_card, say_chip};
-use super::texts::{Text, add, answer, empty, end_at, is_same, read_card, write_card};
+use super::texts::{Text, add, answer, empty, end_at, read_card, write_card};
 use card::Card;
 use std::io::Print;
 
@@ -28,33 +28,35 @@ fn card_of(fitted: u32, allowed: u32, runs: usize) -> Card {
 // With room for one sign less there is no text.
 fn written(output: &impl Print) -> Text {
     let short = write_card(card_of(100, 5000, 2), 65);
-    say_card(output, b"P4 room 65, write", short.answer);
+    say_card(output, "P4 room 65, write", short.answer);
     let done = write_card(card_of(100, 5000, 2), 66);
-    say_card(output, b"P4 room 66, write", done.answer);
+    say_card(output, "P4 room 66, write", done.answer);
     done.text
 }
 
-fn say_text(output: &impl Print, name: &[u8], text: Text, count: u32) {
+fn say_text(output: &impl Print, name: &str, text: Text, count: u32) {
     say_answer(output, name, answer(text, count));
 }
 
 // The runs add up to the turns used at 113 alone, and at 99 the sapphire was not yet fitted.
 fn counts(output: &impl Print, text: Text) {
-    say_text(output, b"P4 count 113, answer", text, 113);
-    say_text(output, b"P4 count 99, answer", text, 99);
-    say_text(output, b"P4 count 112, answer", text, 112);
-    say_text(output, b"P4 count 114, answer", text, 114);
+    say_text(output, "P4 count 113, answer", text, 113);
+    say_text(output, "P4 count 99, answer", text, 99);
+    say_text(output, "P4 count 112, answer", text, 112);
+    say_text(output, "P4 count 114, answer", text, 114);
 }
 
 // One card has one text.
 fn read_back(output: &impl Print, text: Text) {
-    let read = read_card(text);
-    let again = write_card(read.card, 66);
+    let Ok(card) = read_card(text) else {
+        return;
+    };
+    let again = write_card(card, 66);
     say_again(
         output,
-        b"P4 read back, write",
+        "P4 read back, write",
         again.answer,
-        is_same(again.text, text),
+        again.text == text,
     );
 }
 
@@ -76,13 +78,13 @@ fn allowing(allowed: &[u8]) -> Text {
 fn overrun_and_unused(output: &impl Print) {
     say_text(
         output,
-        b"P4 allowed 12, count 113, answer",
+        "P4 allowed 12, count 113, answer",
         allowing(b"12"),
         113,
     );
     say_text(
         output,
-        b"P4 no runs, count 100, answer",
+        "P4 no runs, count 100, answer",
         head(b"5000", b"0"),
         100,
     );
@@ -92,25 +94,25 @@ fn overrun_and_unused(output: &impl Print) {
 fn allowances(output: &impl Print) {
     say_text(
         output,
-        b"P4 allowed 0, count 113, answer",
+        "P4 allowed 0, count 113, answer",
         allowing(b"0"),
         113,
     );
     say_text(
         output,
-        b"P4 allowed 1000000, count 113, answer",
+        "P4 allowed 1000000, count 113, answer",
         allowing(b"1000000"),
         113,
     );
     say_text(
         output,
-        b"P4 allowed 1000001, count 113, answer",
+        "P4 allowed 1000001, count 113, answer",
         allowing(b"1000001"),
         113,
     );
     say_text(
         output,
-        b"P4 allowed 4294967296, count 113, answer",
+        "P4 allowed 4294967296, count 113, answer",
         allowing(b"4294967296"),
         113,
     );
@@ -127,11 +129,11 @@ fn add_64(mut text: Text, run: &[u8]) -> Text {
 // The turns of the second text come to 2 to the power of 38, less 64; those of the third to 13, if they wrapped at 32 bits.
 fn most_runs(output: &impl Print) {
     let text = add_64(head(b"5000", b"64"), &RUN);
-    say_text(output, b"P4 64 runs, count 164, answer", text, 164);
+    say_text(output, "P4 64 runs, count 164, answer", text, 164);
     let large = add_64(head(b"5000", b"64"), b"speed=33\nturns=4294967295\n");
     say_text(
         output,
-        b"P4 64 runs of 4294967295, count 113, answer",
+        "P4 64 runs of 4294967295, count 113, answer",
         large,
         113,
     );
@@ -141,7 +143,7 @@ fn most_runs(output: &impl Print) {
     );
     say_text(
         output,
-        b"P4 runs of 4294967295 and 14, count 113, answer",
+        "P4 runs of 4294967295 and 14, count 113, answer",
         wrapping,
         113,
     );
@@ -152,21 +154,21 @@ fn too_many_runs(output: &impl Print) {
     let text = add_64(head(b"5000", b"65"), &RUN);
     say_text(
         output,
-        b"P4 65 runs, count 165, answer",
+        "P4 65 runs, count 165, answer",
         add(text, &RUN),
         165,
     );
     let other = add(text, b"speed=78\nturns=1\n");
     say_text(
         output,
-        b"P4 65 runs, the last at 78, count 165, answer",
+        "P4 65 runs, the last at 78, count 165, answer",
         other,
         165,
     );
     let zero = add(add_64(head(b"0", b"65"), &RUN), &RUN);
     say_text(
         output,
-        b"P4 65 runs, allowed 0, count 165, answer",
+        "P4 65 runs, allowed 0, count 165, answer",
         zero,
         165,
     );
@@ -176,25 +178,25 @@ fn too_many_runs(output: &impl Print) {
 fn malformed(output: &impl Print, text: Text) {
     say_text(
         output,
-        b"P4 leading zero, count 113, answer",
+        "P4 leading zero, count 113, answer",
         allowing(b"05000"),
         113,
     );
     say_text(
         output,
-        b"P4 byte behind the text, count 113, answer",
+        "P4 byte behind the text, count 113, answer",
         add(text, b"\n"),
         113,
     );
     say_text(
         output,
-        b"P4 last line feed missing, count 113, answer",
+        "P4 last line feed missing, count 113, answer",
         end_at(text, 65),
         113,
     );
 }
 
-fn say_rows(output: &impl Print, name: &[u8], speeds: &[u32], turns: &[u32]) {
+fn say_rows(output: &impl Print, name: &str, speeds: &[u32], turns: &[u32]) {
     let mut text = [0u8; 1706];
     say_card(
         output,
@@ -205,22 +207,22 @@ fn say_rows(output: &impl Print, name: &[u8], speeds: &[u32], turns: &[u32]) {
 
 // Rows can be of different lengths or too long, and a card can say that it has more runs than places.
 fn rows(output: &impl Print) {
-    say_rows(output, b"P4 speed 78, write", &[78], &[13]);
-    say_rows(output, b"P4 rows of 2 and 1, write", &[33, 45], &[13]);
-    say_rows(output, b"P4 65 runs, write", &[33; 65], &[1; 65]);
+    say_rows(output, "P4 speed 78, write", &[78], &[13]);
+    say_rows(output, "P4 rows of 2 and 1, write", &[33, 45], &[13]);
+    say_rows(output, "P4 65 runs, write", &[33; 65], &[1; 65]);
     let done = write_card(card_of(100, 5000, 65), 1706);
-    say_card(output, b"P4 a card that says 65 runs, write", done.answer);
+    say_card(output, "P4 a card that says 65 runs, write", done.answer);
 }
 
 // A chip that is refused has no count, and the card answers only what it is refused for by itself.
 fn on_chips(output: &impl Print) {
     let chip = near_the_end();
     let card = card_of(4294967281, 5000, 2);
-    say_chip(output, b"P4 chip at 4294967294, answer", card, chip);
+    say_chip(output, "P4 chip at 4294967294, answer", card, chip);
     let gone = set(chip, 1, 0xFF);
-    say_chip(output, b"P4 chip, mark gone, answer", card, gone);
+    say_chip(output, "P4 chip, mark gone, answer", card, gone);
     let zero = card_of(4294967281, 0, 2);
-    say_chip(output, b"P4 chip, mark gone, allowed 0, answer", zero, gone);
+    say_chip(output, "P4 chip, mark gone, allowed 0, answer", zero, gone);
 }
 
 pub(crate) fn cases(output: &impl Print) {

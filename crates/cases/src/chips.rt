@@ -1,9 +1,9 @@
 // The chips of the cases: made blank, opened, set and worn, and what the doors make of them. A chip goes by value, which
 // costs the check of a case far less than lent cells and lives do.
-ghost use Rattle.std.specs.Prelude.{◌≤◌};
-
 use card::{Card, ChipAnswer};
+use cells::mains::Mains;
 use counter::doors::ReadAnswer;
+use counter::places::Places;
 use counter::verdict::Answer;
 use counter::{doors, trials};
 
@@ -14,19 +14,24 @@ const BLANK: u8 = 0xFF;
 
 const AMPLE: u32 = 1000;
 
-pub const MAP: usize = 1;
+pub const MAP: usize = Places::SETTING_A.map;
 
-pub const START: usize = 25;
+pub const START: usize = Places::SETTING_A.start;
 
-// A chip and its setting. The cells and lives above `size` are not the chip's: no door sees them.
+// A chip and its setting. The cells and lives above `size` are not the chip's: no door sees them. They are arrays and no `Vec`s, so
+// that a case can set and call one chip in several ways: each copy would need the allocator, and could fail.
 #[derive(Clone, Copy)]
 pub struct Chip {
-    pub image: [u8; 512],
-    pub lives: [u32; 512],
+    pub image: [u8; LARGEST],
+    pub lives: [u32; LARGEST],
     pub size: usize,
-    pub map: usize,
-    pub start: usize,
-    pub end: usize,
+    pub places: Places,
+}
+
+impl Chip {
+    pub(crate) fn cells(&self) -> &[u8] {
+        &self.image[..self.size.min(LARGEST)]
+    }
 }
 
 // What a door leaves: its answer, and the chip as it is then.
@@ -37,15 +42,11 @@ pub struct Done {
 }
 
 pub(crate) fn blank(size: usize, map: usize, start: usize, end: usize) -> Chip {
-    let image = [BLANK; 512];
-    let lives = [AMPLE; 512];
     Chip {
-        image,
-        lives,
+        image: [BLANK; LARGEST],
+        lives: [AMPLE; LARGEST],
         size,
-        map,
-        start,
-        end,
+        places: Places { map, start, end },
     }
 }
 
@@ -68,97 +69,48 @@ pub(crate) fn wear(mut chip: Chip, at: usize) -> Chip {
     chip
 }
 
-// No chip has more cells than the largest.
-pub(crate) fn at_most_largest(size: usize) -> usize
-    ensures { result ≤ 512 }
+// Hands a chip's cells, lives and setting to a door.
+fn call<F: FnOnce(&mut [u8], &mut [u32], Places) -> Answer>(mut chip: Chip, door: F) -> Done
+    requires { F.IsAlwaysCallable door }
 {
-    if size < LARGEST {
-        return size;
-    }
-    LARGEST
-}
-
-pub(crate) fn open(mut chip: Chip) -> Done {
-    let mut image = chip.image;
-    let mut lives = chip.lives;
-    let n = at_most_largest(chip.size);
-    let answer = doors::open(
-        &mut image[..n],
-        &mut lives[..n],
-        chip.map,
-        chip.start,
-        chip.end,
-    );
-    chip.image = image;
-    chip.lives = lives;
+    let n = chip.size.min(LARGEST);
+    let answer = door(&mut chip.image[..n], &mut chip.lives[..n], chip.places);
     Done { answer, chip }
 }
 
-pub(crate) fn step(mut chip: Chip) -> Done {
-    let mut image = chip.image;
-    let mut lives = chip.lives;
-    let n = at_most_largest(chip.size);
-    let answer = doors::step(
-        &mut image[..n],
-        &mut lives[..n],
-        chip.map,
-        chip.start,
-        chip.end,
-    );
-    chip.image = image;
-    chip.lives = lives;
-    Done { answer, chip }
+pub(crate) fn open(chip: Chip) -> Done {
+    call(chip, |image, lives, p| doors::open(image, lives, p))
+}
+
+pub(crate) fn step(chip: Chip) -> Done {
+    call(chip, |image, lives, p| doors::step(image, lives, p))
 }
 
 // An open with power for so many writes; the one after them leaves the torn byte.
-pub(crate) fn trial_open(mut chip: Chip, power: usize, torn: u8) -> Done {
-    let mut image = chip.image;
-    let mut lives = chip.lives;
-    let n = at_most_largest(chip.size);
-    let answer = trials::trial_open(
-        &mut image[..n],
-        &mut lives[..n],
-        chip.map,
-        chip.start,
-        chip.end,
-        power,
-        torn,
-    );
-    chip.image = image;
-    chip.lives = lives;
-    Done { answer, chip }
+pub(crate) fn trial_open(chip: Chip, power: usize, torn: u8) -> Done {
+    let mains = Mains { power, torn };
+    call(
+        chip,
+        |image, lives, p| trials::trial_open(image, lives, p, mains),
+    )
 }
 
 // A step of that kind.
-pub(crate) fn trial_step(mut chip: Chip, power: usize, torn: u8) -> Done {
-    let mut image = chip.image;
-    let mut lives = chip.lives;
-    let n = at_most_largest(chip.size);
-    let answer = trials::trial_step(
-        &mut image[..n],
-        &mut lives[..n],
-        chip.map,
-        chip.start,
-        chip.end,
-        power,
-        torn,
-    );
-    chip.image = image;
-    chip.lives = lives;
-    Done { answer, chip }
+pub(crate) fn trial_step(chip: Chip, power: usize, torn: u8) -> Done {
+    let mains = Mains { power, torn };
+    call(
+        chip,
+        |image, lives, p| trials::trial_step(image, lives, p, mains),
+    )
 }
 
 pub(crate) fn read(chip: Chip) -> ReadAnswer {
-    let image = chip.image;
-    let n = at_most_largest(chip.size);
-    doors::read(&image[..n], chip.map, chip.start, chip.end)
+    doors::read(chip.cells(), chip.places)
 }
 
 // What a card answers at a chip's count.
 pub(crate) fn answer_of(card: Card, chip: Chip) -> ChipAnswer {
-    let image = chip.image;
-    let n = at_most_largest(chip.size);
-    card::answer_of_chip(card, &image[..n], chip.map, chip.start, chip.end)
+    card::answer_of_chip(card, chip.cells(), chip.places)
 }
 
 // A blank chip opened, with the map's place and the area's first cell of every case that does not say another.
@@ -167,21 +119,12 @@ pub(crate) fn opened(size: usize, end: usize) -> Chip {
     done.chip
 }
 
-fn wide(byte: u8) -> u64 {
-    byte as u64
-}
-
-// A cell's byte.
-pub(crate) fn cell(chip: Chip, at: usize) -> u64 {
-    if at < LARGEST {
-        return wide(chip.image[at]);
-    }
-    0
+// A cell's byte, or 0 where there is none.
+pub(crate) fn cell(chip: Chip, at: usize) -> u8 {
+    chip.image.get(at).copied().unwrap_or(0)
 }
 
 // Whether two chips have the same cells.
 pub(crate) fn is_alike(one: Chip, other: Chip) -> bool {
-    let first = one.image;
-    let second = other.image;
-    check::same(&first, &second)
+    one.image == other.image
 }

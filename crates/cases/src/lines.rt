@@ -1,237 +1,211 @@
-// A line for each case: its name, the answer's numbers and, where they say more, some cells, or the counts of mended bits.
-use super::chips::{Chip, answer_of, blank, cell, open, read, step, trial_open, trial_step};
+// A line for each case: its name, the answer's numbers and, where they say more, some cells, or the counts of mended bits. What
+// cannot be printed is missing from the output, and so is not what `stdout` holds.
+use super::chips::{Chip, Done, answer_of, blank, cell, open, read, step, trial_open, trial_step};
 use super::texts::{Text, read_tray};
-use card::Card;
+use card::{Card, Refusal, Wear};
 use counter::verdict::Answer;
+use std::fmt::{self, Display};
 use std::io::Print;
 
-// What cannot be printed is missing from the output, and so is not what `stdout` holds.
-fn print_text(output: &impl Print, text: &[u8]) {
-    let _ = output.write_all(text);
+// What the call found, and what it took.
+fn print_answer(output: &impl Print, name: impl Display + Drop, answer: Answer) {
+    let Answer {
+        code,
+        count,
+        lag,
+        place,
+        writes,
+        tried,
+    } = answer;
+    let _ = print!(output;
+        "{name}: code={code} count={count} lag={lag} place={place} writes={writes} tried={tried}"
+    );
 }
 
-fn print_number(output: &impl Print, key: &[u8], value: u64) {
-    print_text(output, key);
-    let _ = output.print(value);
-}
-
-fn print_signed(output: &impl Print, key: &[u8], value: i64) {
-    print_text(output, key);
-    let mut digits = [0u8; 20];
-    let end = text::write_signed(value, &mut digits, 0);
-    print_text(output, &digits[..end]);
-}
-
-// What the call found.
-fn print_finding(output: &impl Print, answer: Answer) {
-    print_number(output, b": code=", answer.code as u64);
-    print_number(output, b" count=", answer.count as u64);
-    print_signed(output, b" lag=", answer.lag);
-    print_number(output, b" place=", answer.place as u64);
-}
-
-// What it took.
-fn print_work(output: &impl Print, answer: Answer) {
-    print_number(output, b" writes=", answer.writes as u64);
-    print_number(output, b" tried=", answer.tried as u64);
-}
-
-fn print_answer(output: &impl Print, name: &[u8], answer: Answer) {
-    print_text(output, name);
-    print_finding(output, answer);
-    print_work(output, answer);
-}
-
-// In place of a cell, where a line shows fewer than two: no chip has a cell 512.
-pub const NONE: usize = 512;
-
-fn print_cell(output: &impl Print, chip: Chip, at: usize) {
-    if at < NONE {
-        print_number(output, b" cell ", at as u64);
-        print_number(output, b"=", cell(chip, at));
-    }
-}
-
-fn print_count(output: &impl Print, key: &[u8], count: u32) {
-    print_number(output, key, count as u64);
-}
-
-fn print_bits(output: &impl Print, bits: [u32; 8]) {
-    print_count(output, b" bit0=", bits[0]);
-    print_count(output, b" bit1=", bits[1]);
-    print_count(output, b" bit2=", bits[2]);
-    print_count(output, b" bit3=", bits[3]);
-    print_count(output, b" bit4=", bits[4]);
-    print_count(output, b" bit5=", bits[5]);
-    print_count(output, b" bit6=", bits[6]);
-    print_count(output, b" bit7=", bits[7]);
-}
-
-fn say(output: &impl Print, name: &[u8], answer: Answer, chip: Chip, first: usize, second: usize) {
+// With these cells of the chip.
+fn say(
+    output: &impl Print,
+    name: impl Display + Drop,
+    answer: Answer,
+    chip: Chip,
+    cells: &[usize],
+) {
     print_answer(output, name, answer);
-    print_cell(output, chip, first);
-    print_cell(output, chip, second);
-    print_text(output, b"\n");
+    for at in cells {
+        let _ = print!(output; " cell {at}={}", cell(chip, *at));
+    }
+    let _ = println!(output);
+}
+
+// The line of what a door leaves, with the cells to show. It hands on the chip.
+fn say_done(output: &impl Print, name: impl Display + Drop, done: Done, cells: &[usize]) -> Chip {
+    say(output, name, done.answer, done.chip, cells);
+    done.chip
 }
 
 // Calls of the doors, and their lines, with the cells to show. Each hands on the chip that the door leaves.
 pub(crate) fn say_open(
     output: &impl Print,
-    name: &[u8],
+    name: impl Display + Drop,
     chip: Chip,
-    first: usize,
-    second: usize,
+    cells: &[usize],
 ) -> Chip {
-    let done = open(chip);
-    say(output, name, done.answer, done.chip, first, second);
-    done.chip
+    say_done(output, name, open(chip), cells)
 }
 
 pub(crate) fn say_step(
     output: &impl Print,
-    name: &[u8],
+    name: impl Display + Drop,
     chip: Chip,
-    first: usize,
-    second: usize,
+    cells: &[usize],
 ) -> Chip {
-    let done = step(chip);
-    say(output, name, done.answer, done.chip, first, second);
-    done.chip
+    say_done(output, name, step(chip), cells)
 }
 
 // Calls that lose their power. The cell to show is the torn one.
 pub(crate) fn say_cut_open(
     output: &impl Print,
-    name: &[u8],
+    name: impl Display + Drop,
     chip: Chip,
     power: usize,
     torn: u8,
-    at: usize,
+    cells: &[usize],
 ) -> Chip {
-    let done = trial_open(chip, power, torn);
-    say(output, name, done.answer, done.chip, at, NONE);
-    done.chip
+    say_done(output, name, trial_open(chip, power, torn), cells)
 }
 
 pub(crate) fn say_cut_step(
     output: &impl Print,
-    name: &[u8],
+    name: impl Display + Drop,
     chip: Chip,
     power: usize,
     torn: u8,
-    at: usize,
+    cells: &[usize],
 ) -> Chip {
-    let done = trial_step(chip, power, torn);
-    say(output, name, done.answer, done.chip, at, NONE);
-    done.chip
+    say_done(output, name, trial_step(chip, power, torn), cells)
 }
 
 // A read leaves the chip as it is.
-pub(crate) fn say_read(output: &impl Print, name: &[u8], chip: Chip) {
+pub(crate) fn say_read(output: &impl Print, name: impl Display + Drop, chip: Chip) {
     let done = read(chip);
-    say(output, name, done.answer, chip, NONE, NONE);
+    say(output, name, done.answer, chip, &[]);
 }
 
 // A read with the counts of mended bits, the lowest bit first.
-pub(crate) fn say_mended(output: &impl Print, name: &[u8], chip: Chip) {
+pub(crate) fn say_mended(output: &impl Print, name: &str, chip: Chip) {
     let done = read(chip);
     let bits = done.bits;
     print_answer(output, name, done.answer);
-    print_bits(output, bits);
-    print_text(output, b"\n");
+    for (bit, count) in bits.iter().enumerate() {
+        let _ = print!(output; " bit{bit}={count}");
+    }
+    let _ = println!(output);
 }
 
 // Opens a blank chip.
 pub(crate) fn say_blank(
     output: &impl Print,
-    name: &[u8],
+    name: &str,
     size: usize,
     map: usize,
     start: usize,
     end: usize,
 ) {
-    say_open(output, name, blank(size, map, start, end), NONE, NONE);
+    say_open(output, name, blank(size, map, start, end), &[]);
 }
 
-fn print_hex(output: &impl Print, name: &[u8], answer: intelhex::Answer) {
-    print_text(output, name);
-    print_number(output, b": code=", answer.code as u64);
-    print_number(output, b" line=", answer.line as u64);
-    print_number(output, b" length=", answer.length as u64);
-}
-
-pub(crate) fn say_written(output: &impl Print, name: &[u8], answer: intelhex::Answer) {
-    print_hex(output, name, answer);
-    print_text(output, b"\n");
+pub(crate) fn say_written(
+    output: &impl Print,
+    name: &str,
+    answer: Result<usize, intelhex::Refusal>,
+) {
+    let intelhex::Answer { code, line, length } = answer.into();
+    let _ = println!(output; "{name}: code={code} line={line} length={length}");
 }
 
 // With whether the image that a text was read into is now the one that was written, and whether it is kept as it was.
 pub(crate) fn say_taken(
     output: &impl Print,
-    name: &[u8],
-    answer: intelhex::Answer,
+    name: &str,
+    answer: Result<(), intelhex::Refusal>,
     written: bool,
     kept: bool,
 ) {
-    print_hex(output, name, answer);
-    print_number(output, b" written=", written as u64);
-    print_number(output, b" kept=", kept as u64);
-    print_text(output, b"\n");
+    let intelhex::Answer { code, line, length } = answer.into();
+    let _ = println!(output;
+        "{name}: code={code} line={line} length={length} written={} kept={}",
+        written as u8, kept as u8
+    );
 }
 
-fn print_card(output: &impl Print, name: &[u8], answer: card::Written) {
-    print_text(output, name);
-    print_number(output, b": code=", answer.code as u64);
-    print_number(output, b" length=", answer.length as u64);
+// 0, or the number of a refusal.
+fn code_of<T: Copy>(answer: Result<T, Refusal>) -> u32 {
+    match answer {
+        Ok(_) => 0,
+        Err(refusal) => refusal.into(),
+    }
 }
 
-pub(crate) fn say_card(output: &impl Print, name: &[u8], answer: card::Written) {
-    print_card(output, name, answer);
-    print_text(output, b"\n");
+pub(crate) fn say_card(output: &impl Print, name: &str, answer: Result<usize, Refusal>) {
+    let code = code_of(answer);
+    let length = answer.unwrap_or(0);
+    let _ = println!(output; "{name}: code={code} length={length}");
 }
 
 // With whether the text is the one that the card was read from.
-pub(crate) fn say_again(output: &impl Print, name: &[u8], answer: card::Written, same: bool) {
-    print_card(output, name, answer);
-    print_number(output, b" same=", same as u64);
-    print_text(output, b"\n");
+pub(crate) fn say_again(
+    output: &impl Print,
+    name: &str,
+    answer: Result<usize, Refusal>,
+    same: bool,
+) {
+    let code = code_of(answer);
+    let length = answer.unwrap_or(0);
+    let _ = println!(output; "{name}: code={code} length={length} same={}", same as u8);
 }
 
-// Ends the line of what a card answers.
-fn print_turns(output: &impl Print, answer: card::Answer) {
-    print_number(output, b" used=", answer.used as u64);
-    print_signed(output, b" left=", answer.left);
-    print_number(output, b" time=", answer.time);
-    print_text(output, b"\n");
+// What a card answers, as zeros where it refuses.
+fn wear_of(answer: Result<Wear, Refusal>) -> Wear {
+    answer.unwrap_or(Wear {
+        used: 0,
+        left: 0,
+        time: 0,
+    })
 }
 
-pub(crate) fn say_answer(output: &impl Print, name: &[u8], answer: card::Answer) {
-    print_text(output, name);
-    print_number(output, b": code=", answer.code as u64);
-    print_turns(output, answer);
+pub(crate) fn say_answer(output: &impl Print, name: &str, answer: Result<Wear, Refusal>) {
+    let code = code_of(answer);
+    let Wear { used, left, time } = wear_of(answer);
+    let _ = println!(output; "{name}: code={code} used={used} left={left} time={time}");
 }
 
 // At a chip's count, with the code of its read.
-pub(crate) fn say_chip(output: &impl Print, name: &[u8], card: Card, chip: Chip) {
+pub(crate) fn say_chip(output: &impl Print, name: &str, card: Card, chip: Chip) {
     let told = answer_of(card, chip);
-    let answer = told.answer;
-    print_text(output, name);
-    print_number(output, b": read=", told.read as u64);
-    print_number(output, b" code=", answer.code as u64);
-    print_turns(output, answer);
+    let read = told.read;
+    let code = code_of(told.answer);
+    let Wear { used, left, time } = wear_of(told.answer);
+    let _ = println!(output; "{name}: read={read} code={code} used={used} left={left} time={time}");
 }
 
-fn print_row(output: &impl Print, key: &[u8], row: [u32; 64]) {
-    print_count(output, key, row[0]);
-    print_count(output, b",", row[1]);
-    print_count(output, b",", row[2]);
-    print_count(output, b",", row[3]);
+// What C is told where a tray is refused.
+const TRAY_REFUSED: u32 = 12;
+
+// What a line shows of a row: its first four entries.
+#[derive(Drop)]
+struct Row([u32; 64]);
+
+impl fmt::Display for Row {
+    fn fmt<W: fmt::Write>(&self, f: &mut fmt::Formatter<W>) -> fmt::Result {
+        let [first, second, third, fourth, ..] = self.0;
+        write!(f, "{first},{second},{third},{fourth}")
+    }
 }
 
-// What a tray leaves, with the first four entries of its rows.
+// What a tray leaves.
 pub(crate) fn say_tray(
     output: &impl Print,
-    name: &[u8],
+    name: &str,
     tray: Text,
     each: usize,
     end: usize,
@@ -239,11 +213,8 @@ pub(crate) fn say_tray(
     coded: usize,
 ) {
     let left = read_tray(tray, each, end, counted, coded);
-    let counts = left.counts;
-    let codes = left.codes;
-    print_text(output, name);
-    print_number(output, b": code=", left.code as u64);
-    print_row(output, b" counts=", counts);
-    print_row(output, b" codes=", codes);
-    print_text(output, b"\n");
+    let code = if left.answer.is_ok() { 0 } else { TRAY_REFUSED };
+    let counts = Row(left.counts);
+    let codes = Row(left.codes);
+    let _ = println!(output; "{name}: code={code} counts={counts} codes={codes}");
 }

@@ -1,67 +1,58 @@
 // The texts of the cases: Intel HEX written from a chip and read into a chip, cards written and read, and texts put together and
 // damaged. A text goes by value, as a chip does. A tray of dumps is one too.
-ghost use Rattle.std.specs.Prelude.{◌≤◌};
-
-use super::chips::{Chip, MAP, START, at_most_largest};
-use card::Card;
+use super::chips::{Chip, LARGEST, MAP, START};
+use card::{Card, Refusal, Wear};
+use counter::places::Places;
+use dumps::tray::NotATray;
 
 // The signs of the longest text: no card has a longer one.
 const LONGEST: usize = 1706;
 
-// The signs from `length` on are not the text's: no door sees them.
-#[derive(Clone, Copy)]
+// The images of the largest tray: no row has more entries.
+const MOST_IMAGES: usize = 64;
+
+// The signs from `length` on are not the text's: no door sees them. They are an array, as a chip's cells are: a text too is damaged in
+// several ways, a copy each.
+#[derive(Clone, Copy, PartialEq)]
 pub struct Text {
-    pub signs: [u8; 1706],
+    pub signs: [u8; LONGEST],
     pub length: usize,
+}
+
+impl Text {
+    fn signs(&self) -> &[u8] {
+        &self.signs[..self.length.min(LONGEST)]
+    }
 }
 
 // What writing leaves: its answer, and the text.
 #[derive(Clone, Copy)]
-pub struct Written {
-    pub answer: intelhex::Answer,
-    pub text: Text,
-}
-
-// The same of a card.
-#[derive(Clone, Copy)]
-pub struct WrittenCard {
-    pub answer: card::Written,
+pub struct Written<A> {
+    pub answer: A,
     pub text: Text,
 }
 
 // What reading leaves: its answer, and the chip as it is then.
 #[derive(Clone, Copy)]
 pub struct Taken {
-    pub answer: intelhex::Answer,
+    pub answer: Result<(), intelhex::Refusal>,
     pub chip: Chip,
 }
 
-// What a tray leaves: its code, and the rows.
+// What a tray leaves: whether it is refused, and the rows.
 #[derive(Clone, Copy)]
 pub struct Entries {
-    pub code: u32,
-    pub counts: [u32; 64],
-    pub codes: [u32; 64],
-}
-
-// No text has more signs than the longest.
-fn at_most_longest(length: usize) -> usize
-    ensures { result ≤ 1706 }
-{
-    if length < LONGEST {
-        return length;
-    }
-    LONGEST
+    pub answer: Result<(), NotATray>,
+    pub counts: [u32; MOST_IMAGES],
+    pub codes: [u32; MOST_IMAGES],
 }
 
 // Writes a chip's image where there is room for so many signs.
-pub(crate) fn write(chip: Chip, room: usize) -> Written {
-    let image = chip.image;
-    let mut signs = [0u8; 1706];
-    let n = at_most_largest(chip.size);
-    let lent = at_most_longest(room);
-    let answer = intelhex::write_image(&image[..n], &mut signs[..lent]);
-    let length = answer.length;
+pub(crate) fn write(chip: Chip, room: usize) -> Written<Result<usize, intelhex::Refusal>> {
+    let mut signs = [0u8; LONGEST];
+    let lent = room.min(LONGEST);
+    let answer = intelhex::write_image(chip.cells(), &mut signs[..lent]);
+    let length = answer.unwrap_or(0);
     Written {
         answer,
         text: Text { signs, length },
@@ -70,49 +61,31 @@ pub(crate) fn write(chip: Chip, room: usize) -> Written {
 
 // Reads a text into a chip's image.
 pub(crate) fn read(text: Text, mut chip: Chip) -> Taken {
-    let signs = text.signs;
-    let mut image = chip.image;
-    let n = at_most_largest(chip.size);
-    let length = at_most_longest(text.length);
-    let answer = intelhex::read_image(&signs[..length], &mut image[..n]);
-    chip.image = image;
+    let n = chip.size.min(LARGEST);
+    let answer = intelhex::read_image(text.signs(), &mut chip.image[..n]);
     Taken { answer, chip }
 }
 
 // Writes a card where there is room for so many signs.
-pub(crate) fn write_card(card: Card, room: usize) -> WrittenCard {
-    let mut signs = [0u8; 1706];
-    let lent = at_most_longest(room);
+pub(crate) fn write_card(card: Card, room: usize) -> Written<Result<usize, Refusal>> {
+    let mut signs = [0u8; LONGEST];
+    let lent = room.min(LONGEST);
     let answer = card::write_card(card, &mut signs[..lent]);
-    let length = answer.length;
-    WrittenCard {
+    let length = answer.unwrap_or(0);
+    Written {
         answer,
         text: Text { signs, length },
     }
 }
 
 // Reads a text as a card.
-pub(crate) fn read_card(text: Text) -> card::Read {
-    let signs = text.signs;
-    let length = at_most_longest(text.length);
-    card::read_card(&signs[..length])
+pub(crate) fn read_card(text: Text) -> Result<Card, Refusal> {
+    card::read_card(text.signs())
 }
 
 // What a text answers at a count.
-pub(crate) fn answer(text: Text, count: u32) -> card::Answer {
-    let signs = text.signs;
-    let length = at_most_longest(text.length);
-    card::answer_of_text(&signs[..length], count)
-}
-
-// No row has more entries than a tray has images.
-fn at_most_64(room: usize) -> usize
-    ensures { result ≤ 64 }
-{
-    if room < 64 {
-        return room;
-    }
-    64
+pub(crate) fn answer(text: Text, count: u32) -> Result<Wear, Refusal> {
+    card::answer_of_text(text.signs(), count)
 }
 
 // Reads a tray into rows of so many entries, which are 9 before.
@@ -123,23 +96,23 @@ pub(crate) fn read_tray(
     counted: usize,
     coded: usize,
 ) -> Entries {
-    let signs = tray.signs;
-    let length = at_most_longest(tray.length);
-    let mut counts = [9u32; 64];
-    let mut codes = [9u32; 64];
-    let first = at_most_64(counted);
-    let second = at_most_64(coded);
-    let code = dumps::tray::read_tray(
-        &signs[..length],
+    let mut counts = [9u32; MOST_IMAGES];
+    let mut codes = [9u32; MOST_IMAGES];
+    let first = counted.min(MOST_IMAGES);
+    let second = coded.min(MOST_IMAGES);
+    let answer = dumps::tray::read_tray(
+        tray.signs(),
         each,
-        MAP,
-        START,
-        end,
+        Places {
+            map: MAP,
+            start: START,
+            end,
+        },
         &mut counts[..first],
         &mut codes[..second],
     );
     Entries {
-        code,
+        answer,
         counts,
         codes,
     }
@@ -147,25 +120,23 @@ pub(crate) fn read_tray(
 
 // A tray with a chip's image behind it.
 pub(crate) fn lay(tray: Text, chip: Chip) -> Text {
-    let image = chip.image;
-    let n = at_most_largest(chip.size);
-    add(tray, &image[..n])
+    add(tray, chip.cells())
 }
 
 pub(crate) fn empty() -> Text {
-    let signs = [0u8; 1706];
-    Text { signs, length: 0 }
+    Text {
+        signs: [0; LONGEST],
+        length: 0,
+    }
 }
 
 // A text with more behind it, if there is room.
 pub(crate) fn add(mut text: Text, more: &[u8]) -> Text {
-    let mut signs = text.signs;
-    let length = at_most_longest(text.length);
+    let length = text.length.min(LONGEST);
     if LONGEST - length < more.len() {
         return text;
     }
-    text.length = text::write_bytes(more, &mut signs, length);
-    text.signs = signs;
+    text.length = text::write_bytes(more, &mut text.signs, length);
     text
 }
 
@@ -181,11 +152,4 @@ pub(crate) fn change(mut text: Text, at: usize, sign: u8) -> Text {
 pub(crate) fn end_at(mut text: Text, length: usize) -> Text {
     text.length = length;
     text
-}
-
-// Whether two texts have the same signs.
-pub(crate) fn is_same(one: Text, other: Text) -> bool {
-    let first = one.signs;
-    let second = other.signs;
-    check::same(&first, &second)
 }

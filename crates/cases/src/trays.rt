@@ -18,11 +18,11 @@ fn three() -> Text {
 
 // Each image has its own entries, and those past the images stay.
 fn good_trays(output: &impl Print) {
-    say_tray(output, b"P7 one image", at_1(), SIZE_A, END_A, 4, 4);
-    say_tray(output, b"P7 three images", three(), SIZE_A, END_A, 4, 4);
+    say_tray(output, "P7 one image", at_1(), SIZE_A, END_A, 4, 4);
+    say_tray(output, "P7 three images", three(), SIZE_A, END_A, 4, 4);
     say_tray(
         output,
-        b"P7 three images, rows of 3",
+        "P7 three images, rows of 3",
         three(),
         SIZE_A,
         END_A,
@@ -35,7 +35,7 @@ fn good_trays(output: &impl Print) {
 fn refused_images(output: &impl Print) {
     say_tray(
         output,
-        b"P7 images of 40",
+        "P7 images of 40",
         end_at(three(), 120),
         40,
         END_A,
@@ -44,7 +44,7 @@ fn refused_images(output: &impl Print) {
     );
     say_tray(
         output,
-        b"P7 the area ends at 129",
+        "P7 the area ends at 129",
         three(),
         SIZE_A,
         129,
@@ -54,23 +54,23 @@ fn refused_images(output: &impl Print) {
 }
 
 fn short_rows(output: &impl Print) {
-    say_tray(output, b"P7 counts of 2", three(), SIZE_A, END_A, 2, 4);
-    say_tray(output, b"P7 codes of 2", three(), SIZE_A, END_A, 4, 2);
+    say_tray(output, "P7 counts of 2", three(), SIZE_A, END_A, 2, 4);
+    say_tray(output, "P7 codes of 2", three(), SIZE_A, END_A, 4, 2);
 }
 
 fn no_trays(output: &impl Print) {
-    say_tray(output, b"P7 image length 0", three(), 0, END_A, 4, 4);
-    say_tray(output, b"P7 no image", empty(), SIZE_A, END_A, 4, 4);
+    say_tray(output, "P7 image length 0", three(), 0, END_A, 4, 4);
+    say_tray(output, "P7 no image", empty(), SIZE_A, END_A, 4, 4);
     let short = end_at(three(), 386);
-    say_tray(output, b"P7 a byte too few", short, SIZE_A, END_A, 4, 4);
+    say_tray(output, "P7 a byte too few", short, SIZE_A, END_A, 4, 4);
     let long = end_at(three(), 388);
-    say_tray(output, b"P7 a byte too many", long, SIZE_A, END_A, 4, 4);
+    say_tray(output, "P7 a byte too many", long, SIZE_A, END_A, 4, 4);
 }
 
 fn many_images(output: &impl Print) {
     say_tray(
         output,
-        b"P7 64 images",
+        "P7 64 images",
         end_at(three(), 64),
         1,
         END_A,
@@ -79,7 +79,7 @@ fn many_images(output: &impl Print) {
     );
     say_tray(
         output,
-        b"P7 65 images",
+        "P7 65 images",
         end_at(three(), 65),
         1,
         END_A,

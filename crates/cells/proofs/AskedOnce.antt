@@ -4,13 +4,13 @@
 --   Once                      each cell was asked at most once
 --   once_none, once_append    of no writes; of two logs in places that do not meet
 --   once_put, once_row        a put, and bytes put at neighbouring cells
+use Rattle.std.proofs.Common.{Option}
 use Prim.Native.Nat.{ℕ, ◌+◌, ◌≤◌}
 use mathlib.Core.Path.{◌≡◌, refl, subst}
 use mathlib.Core.Bool.{Bool, true, false}
 use mathlib.Core.List.{List, [], ◌∷◌, ◌++◌}
 use native.Mathlib.Decide.{ℕ_discrete, dec_le}
 use native.Mathlib.Omega.{arith}
-use Rattle.cells.specs.declared.row.Found.{Found}
 use Rattle.cells.specs.Chip.{Chip}
 use Rattle.cells.specs.Run.{Run, Write}
 use Rattle.cells.specs.Log.{asked_of, Every, Every.none, Every.more}
@@ -61,7 +61,7 @@ unfolding put_row
 once_row [] a s = once_none
 once_row (b ∷ bs) a s = go (put_at a b s).answer refl (once_row bs (a + 1) (put_at a b s).after)
   where
-    rest : Run Found
+    rest : Run (Option ℕ)
     rest = put_row bs (a + 1) (put_at a b s).after
 
     go : (t : Bool) → (put_at a b s).answer ≡ t → Once rest.log → Once (put_row (b ∷ bs) a s).log

@@ -4,7 +4,7 @@
 --   Left, left_..             what is left of a piece of work, behind so many writes and tries
 --   said_..                   the same over what a function has said of a first piece
 --   said_plain                with power for every write it has said it of the plain work
---   tells_whole, tells_one    there is one way to tell
+--   says_one                  there is one way to say it
 use Prim.Native.Nat.{ℕ, zero, suc, ◌+◌, ◌-◌, ◌≤◌}
 use mathlib.Core.Path.{◌≡◌, refl, sym, ap, ◌∙◌}
 use mathlib.Core.Bool.{true≢false}
@@ -12,12 +12,12 @@ use mathlib.Core.List.{List, [], ◌∷◌, ◌++◌, append-nil}
 use native.Mathlib.Nat.{sub-zero, zero-add, add-zero}
 use native.Mathlib.Omega.{arith}
 use lib.ListN.{length}
-use Rattle.cells.specs.declared.row.Found.{Found}
-use Rattle.cells.specs.declared.row.Found.TheVariants.{At, Nowhere}
 use Rattle.cells.specs.Chip.{Chip, write_at}
 use Rattle.cells.specs.Run.{Write, Run, Seen, seen, still, view, plus, ◌then◌, ◌giving◌}
 use Rattle.cells.specs.Log.{write_all}
-use Rattle.cells.specs.Cut.{Cut, Cut.whole, Cut.lost, tear, cut, later, sight, Says, Tells}
+use Rattle.cells.specs.Cut.{Cut, Cut.whole, Cut.lost, tear, cut, later, sight, Says}
+use Rattle.std.proofs.Common.{Result, Ok, Err}
+use Rattle.cells.specs.declared.mains.PowerLost.{PowerLost}
 use Rattle.cells.proofs.Views.{plus_plus, view_then}
 
 -- ## Logs
@@ -125,92 +125,67 @@ module _ {A : Type 0} {n b : ℕ} {r : Run A} {s : Chip} where
         }
 
     -- what is said of it is said of the whole, behind those writes and tries
-    pub left_says : {l : Found} {v : Seen A} → Says l v (n - w) b q u → Says l (plus w t v) n b r s
-    left_says {l} {v} e = record { so = behind l ∙ sym (left.so ∙ ap (later w t) (sym e.so)) }
-      where
-        behind : (l : Found) → sight l (plus w t v) ≡ later w t (sight l v)
-        behind (At a) = refl
-        behind Nowhere = refl
+    pub left_says : {x : Cut A} → Says x (n - w) b q u → Says (later w t x) n b r s
+    left_says e = record { so = ap (later w t) e.so ∙ sym left.so }
 
 -- work for which there is power
-pub says_enough : {A : Type 0} {n b : ℕ} {r : Run A} {s : Chip} {v : Seen A} → length r.log ≤ n → v ≡ view r → Says Nowhere v n b r s
+pub says_enough : {A : Type 0} {n b : ℕ} {r : Run A} {s : Chip} {v : Seen A} → length r.log ≤ n → v ≡ view r → Says (whole v) n b r s
 says_enough {n = n} {b = b} {r = r} {s = s} h e = record { so = ap whole e ∙ sym (cut_enough n b r s h) }
 
 -- work that is none
-pub says_still : {A : Type 0} {n b : ℕ} {x : A} {s : Chip} → Says Nowhere (seen x 0 0 s) n b (still x s) s
+pub says_still : {A : Type 0} {n b : ℕ} {x : A} {s : Chip} → Says (whole (seen x 0 0 s)) n b (still x s) s
 says_still = says_enough (omega arith) refl
 
-module _ {A : Type 0} {n b : ℕ} {r : Run A} {s : Chip} {l : Found} {v : Seen A} (e : Says l v n b r s) where
-  -- the power was lost, and so it is of all that starts with the piece
-  pub said_lost : {B : Type 0} {a : ℕ} {x : Found} {u : Seen B} {q : Run B} → l ≡ At a → x ≡ At a → u.after ≡ v.after → Starts r.log q.log → Says x u n b q s
-  said_lost {a = a} {x = x} {u = u} {q = q} here there same starts =
-      record {
-        so =
-            ap (λ (y : Found). sight y u) there
-            ∙ ap (lost a) same
-            ∙ sym (cut_first n b r q s starts (sym e.so ∙ ap (λ (y : Found). sight y v) here));
-      }
+-- the power was lost, and so it is of all that starts with the piece
+pub said_lost : {A B : Type 0} {n b : ℕ} {r : Run A} {q : Run B} {s : Chip} {a : ℕ} {t : Chip} → Says (lost a t) n b r s → Starts r.log q.log → Says (lost a t) n b q s
+said_lost {n = n} {b = b} {r = r} {q = q} {s = s} e starts = record { so = sym (cut_first n b r q s starts (sym e.so)) }
 
-  -- the same by other names
-  pub said_same : {m : Found} {u : Seen A} → l ≡ m → v ≡ u → Says m u n b r s
-  said_same p q = rw (← p, ← q) e
+-- the same by other names
+pub said_as : {A : Type 0} {n b m d : ℕ} {r : Run A} {s : Chip} {x : Cut A} → Says x n b r s → n ≡ m → b ≡ d → Says x m d r s
+said_as e p q = rw (← p, ← q) e
 
-  pub said_as : {m d : ℕ} → n ≡ m → b ≡ d → Says l v m d r s
-  said_as p q = rw (← p, ← q) e
-
-  said_both : l ≡ Nowhere → (length r.log ≤ n) × (v ≡ view r)
-  said_both on = tear_whole b n r.log (view r) s (sym e.so ∙ ap (λ (x : Found). sight x v) on)
+module _ {A : Type 0} {n b : ℕ} {r : Run A} {s : Chip} {v : Seen A} (e : Says (whole v) n b r s) where
+  said_both : (length r.log ≤ n) × (v ≡ view r)
+  said_both = tear_whole b n r.log (view r) s (sym e.so)
 
   -- it was not, and the piece is whole
-  pub said_view : l ≡ Nowhere → v ≡ view r
-  said_view on = (said_both on).1
+  pub said_view : v ≡ view r
+  said_view = said_both.1
 
-  pub said_enough : l ≡ Nowhere → v.writes ≤ n
-  said_enough on = rw (said_view on) (said_both on).0
+  pub said_enough : v.writes ≤ n
+  said_enough = rw said_view said_both.0
 
   -- and so it is with another answer
-  pub said_ends : {B : Type 0} {x : B} → l ≡ Nowhere → Says Nowhere (seen x v.writes v.tried v.after) n b (r giving x) s
-  said_ends on = says_enough (said_both on).0 (rw (said_view on))
+  pub said_ends : {B : Type 0} {x : B} → Says (whole (seen x v.writes v.tried v.after)) n b (r giving x) s
+  said_ends = says_enough said_both.0 (rw said_view)
 
   -- and then another piece, on the chip as the first left it
-  pub said_left : {B : Type 0} (q : Chip → Run B) → l ≡ Nowhere → r.after ≡ write_all r.log s
+  pub said_left : {B : Type 0} (q : Chip → Run B) → r.after ≡ write_all r.log s
       → Left v.writes v.tried n b (r then q r.after) s (q v.after) v.after
-  said_left q on logged = record { few = said_enough on; so = rw (said_view on) (cut_then n b r s (q r.after) (said_both on).0 logged) }
+  said_left q logged = record { few = said_enough; so = rw said_view (cut_then n b r s (q r.after) said_both.0 logged) }
 
-module _ {A : Type 0} {w t n b : ℕ} {r q : Run A} {s z : Chip} (left : Left w t n b r s q z) where
-  -- nothing is left
-  pub left_none : {x : A} → q ≡ still x z → Says Nowhere (seen x w t z) n b r s
-  left_none {x} e = rw (add-zero w, add-zero t) at (left_says (rw e at left) (says_still {x = x}))
-
-  -- the power was lost in what is left
-  pub left_lost : {l x : Found} {v u : Seen A} {a : ℕ} → Says l v (n - w) b q z → l ≡ At a → x ≡ At a → u.after ≡ v.after → Says x u n b r s
-  left_lost e here there same = said_lost (left_says left e) here there same (starts_same r.log)
+-- nothing is left
+pub left_none : {A : Type 0} {w t n b : ℕ} {r q : Run A} {s z : Chip} → Left w t n b r s q z → {x : A} → q ≡ still x z → Says (whole (seen x w t z)) n b r s
+left_none {w = w} {t = t} left {x} e = rw (add-zero w, add-zero t) at (left_says (rw e at left) (says_still {x = x}))
 
 -- where there is power for every write, what is said is said of the plain work
-pub said_plain : {A : Type 0} {n b : ℕ} {r : Run A} {s : Chip} {l : Found} {v : Seen A} → Says l v n b r s → length r.log ≤ n → v ≡ view r
-said_plain {n = n} {b = b} {r = r} {s = s} {l = l} {v = v} e h = go l (e.so ∙ cut_enough n b r s h)
-  where
-    go : (l : Found) → sight l v ≡ whole (view r) → v ≡ view r
-    go (At a) f = absurd (true≢false cc)
-    go Nowhere f = cc
+pub said_plain : {A : Type 0} {n b : ℕ} {r : Run A} {s : Chip} {x : Cut A} → Says x n b r s → length r.log ≤ n → x ≡ whole (view r)
+said_plain {n = n} {b = b} {r = r} {s = s} e h = e.so ∙ cut_enough n b r s h
 
 -- ## One answer
 
--- what is told of a piece of work that was not cut
-pub tells_whole : {A : Type 0} {nothing : A} {v : Seen A} {n b : ℕ} {r : Run A} {s : Chip} → Says Nowhere v n b r s → Tells nothing Nowhere v n b r s
-tells_whole e = record { says = e; mute = λ a on. absurd (true≢false cc) }
-
--- there is one way to tell
-pub tells_one : {A : Type 0} {nothing : A} {l m : Found} {v u : Seen A} {n b : ℕ} {r : Run A} {s : Chip}
-    → Tells nothing l v n b r s → Tells nothing m u n b r s → (l ≡ m) × (v ≡ u)
-tells_one {nothing = nothing} {l = l} {m = m} {v = v} {u = u} one other = go l m refl refl (one.says.so ∙ sym other.says.so)
-  where
-    go : (x y : Found) → l ≡ x → m ≡ y → sight l v ≡ sight m u → (l ≡ m) × (v ≡ u)
-    go (At a) (At c) p q e =
-        let f : lost a v.after ≡ lost c u.after = rw (p, q) at e in
-        let place : a ≡ c = cc in
-        let chip : v.after ≡ u.after = cc in
-        (p ∙ ap At place ∙ sym q, one.mute a p ∙ ap (seen nothing 0 0) chip ∙ sym (other.mute c q))
-    go (At a) Nowhere p q e = let f : lost a v.after ≡ whole u = rw (p, q) at e in absurd (true≢false cc)
-    go Nowhere (At c) p q e = let f : whole v ≡ lost c u.after = rw (p, q) at e in absurd (true≢false cc)
-    go Nowhere Nowhere p q e = let f : whole v ≡ whole u = rw (p, q) at e in (p ∙ sym q, cc)
+-- there is one way to say it, where no two things are shown alike
+pub says_one :
+    {A B : Type 0} (shows : B → Chip → Seen A) → ((x y : B) (t u : Chip) → shows x t ≡ shows y u → (x ≡ y) × (t ≡ u))
+    → {n b : ℕ} {r : Run A} {s : Chip} (x y : Result B PowerLost) (t u : Chip)
+    → Says (sight shows x t) n b r s → Says (sight shows y u) n b r s → (x ≡ y) × (t ≡ u)
+says_one shows apart (Ok x) (Ok y) t u one other =
+    let e : whole (shows x t) ≡ whole (shows y u) = one.so ∙ sym other.so in
+    let same = apart x y t u cc in
+    (ap Ok same.0, same.1)
+says_one shows apart (Err l) (Err m) t u one other =
+    let e : lost l.at t ≡ lost m.at u = one.so ∙ sym other.so in
+    let place : l.at ≡ m.at = cc in
+    (ap Err (λ i. record { at = place i }), cc)
+says_one shows apart (Ok x) (Err m) t u one other = let e : whole (shows x t) ≡ lost m.at u = one.so ∙ sym other.so in absurd (true≢false cc)
+says_one shows apart (Err l) (Ok y) t u one other = let e : lost l.at t ≡ whole (shows y u) = one.so ∙ sym other.so in absurd (true≢false cc)

@@ -9,12 +9,11 @@ use native.Mathlib.Omega.{arith}
 use borrow.Author.Tests.{eq-eqb, ne_eqb, eqb-true}
 use lib.Dec.{eqb}
 use lib.ListN.{length}
-use Rattle.cells.specs.declared.row.Found.TheVariants.{At, Nowhere}
 use Rattle.cells.specs.Chip.{Chip, cell_at, life_at, write_at, Paired, Kept}
 use Rattle.cells.specs.Run.{Run, Seen, write, run, still, view}
 use Rattle.cells.specs.Log.{Within}
 use Rattle.cells.specs.Put.{put_at, read_back}
-use Rattle.cells.specs.Cut.{tear, Says}
+use Rattle.cells.specs.Cut.{Cut.whole, Cut.lost, tear, Says}
 use Rattle.cells.proofs.Writes.{write_laws, alive_inside}
 use Rattle.cells.proofs.Cuts.{says_enough}
 use Rattle.cells.proofs.Logs.{within_still, within_write, within_kept}
@@ -132,14 +131,14 @@ module _ (a b : ℕ) (s : Chip) where
   put_few e = rw e (put_cost a b s)
 
 -- for code that puts on mains that can be lost
-module _ {n x : ℕ} (a b : ℕ) {s : Chip} {v : Seen Bool} where
+module _ {n x : ℕ} (a b : ℕ) {s : Chip} where
   -- no power is left for the write that is asked
-  pub put_torn : n ≡ 0 → (cell_at s a ≡ b → ⊥) → v.after ≡ write_at a x s → Says (At a) v n x (put_at a b s) s
+  pub put_torn : {t : Chip} → n ≡ 0 → (cell_at s a ≡ b → ⊥) → t ≡ write_at a x s → Says (lost a t) n x (put_at a b s) s
   unfolding tear
   put_torn z d e = record { so = rw (z, put_asks a b s d, e) }
 
   -- there is power, or no write is asked
-  pub put_whole : (n ≡ 0 → cell_at s a ≡ b) → v ≡ view (put_at a b s) → Says Nowhere v n x (put_at a b s) s
+  pub put_whole : {v : Seen Bool} → (n ≡ 0 → cell_at s a ≡ b) → v ≡ view (put_at a b s) → Says (whole v) n x (put_at a b s) s
   put_whole h = says_enough (go (ℕ_discrete n 0))
     where
       go : Dec (n ≡ 0) → length (put_at a b s).log ≤ n

@@ -1,6 +1,7 @@
 -- Laws of a walk along a row of cells: what it keeps, what it changes, what it costs.
 --   asks_each                 each cell of a row is asked
 --   try_put                   a cell tried is a put, counted
+use Rattle.std.proofs.Common.{Option, Some, None}
 use Prim.Native.Nat.{ℕ, zero, suc, ◌+◌, ◌-◌, ◌≤◌, ◌<◌}
 use mathlib.Core.Path.{◌≡◌, refl, ap, ◌∙◌}
 use mathlib.Core.Bool.{Bool, true, false}
@@ -11,14 +12,12 @@ use native.Mathlib.Omega.{arith}
 use lib.ListN.{length, length-append}
 use Rattle.cells.specs.declared.row.Way.{Way}
 use Rattle.cells.specs.declared.row.Way.TheVariants.{Up, Down}
-use Rattle.cells.specs.declared.row.Found.{Found}
-use Rattle.cells.specs.declared.row.Found.TheVariants.{At, Nowhere}
 use Rattle.cells.specs.Chip.{Chip, life_at, Paired, Kept}
 use Rattle.cells.specs.Run.{still, write, Run, run, Seen, seen, view, ◌then◌, ◌giving◌}
 use Rattle.cells.specs.Log.{asked_of, Within}
 use Rattle.cells.specs.Put.{put_at}
 use Rattle.cells.specs.Row.{next, nth, InRow, try_at, walk, asks}
-use Rattle.cells.specs.Cut.{Says}
+use Rattle.cells.specs.Cut.{Cut.whole, Cut.lost, Says}
 use Rattle.cells.proofs.Views.{said_answer}
 use Rattle.cells.proofs.Cuts.{Starts, starts_same, starts_append, Left, says_enough, said_lost, said_view, said_enough, said_ends, said_left}
 use Rattle.cells.proofs.Logs.{asked_here, asked_append, within_still, within_wider, within_cond, within_giving, within_then, within_kept}
@@ -30,7 +29,7 @@ use Rattle.cells.proofs.Puts.{Refuses, put_within, put_cost, put_failed, put_law
 -- a walk misses: each of its cells was asked and refuses the byte, and the chip is as it was
 pub record Missed (n : ℕ) (way : Way) (a b : ℕ) (s : Chip) : Type 0 where
   pub refused : (j : ℕ) → j < n → Refuses (nth way a j) b s
-  pub comes : walk n way a b s ≡ run Nowhere (asks n way a b) n s
+  pub comes : walk n way a b s ≡ run None (asks n way a b) n s
 
 -- a walk hits: the cells before were asked and refuse the byte, and the put there, on the chip as it was, holds
 pub record Hit (n : ℕ) (way : Way) (a b : ℕ) (s : Chip) : Type 0 where
@@ -41,7 +40,7 @@ pub record Hit (n : ℕ) (way : Way) (a b : ℕ) (s : Chip) : Type 0 where
   pub comes :
       walk n way a b s
       ≡ run
-      (At (nth way a index))
+      (Some (nth way a index))
       (asks index way a b ++ (put_at (nth way a index) b s).log)
       (index + 1)
       (put_at (nth way a index) b s).after
@@ -56,7 +55,7 @@ pub record WalkLaws (n : ℕ) (way : Way) (a b : ℕ) (s : Chip) : Type 0 where
   pub within : Within (InRow n way a) s (walk n way a b s)
   pub kept : Kept (InRow n way a) s (walk n way a b s).after
   pub walking : Walking n way a b s
-  pub first : 1 ≤ n → 1 ≤ life_at s a → walk n way a b s ≡ try_at a b s giving At a
+  pub first : 1 ≤ n → 1 ≤ life_at s a → walk n way a b s ≡ try_at a b s giving Some a
   pub cost : length (walk n way a b s).log ≤ (walk n way a b s).tried
   pub tried : (walk n way a b s).tried ≤ n
 
@@ -85,13 +84,13 @@ next_nth Up a = refl
 next_nth Down a = refl
 
 -- a walk over no cell
-pub walk_none : (way : Way) (a b : ℕ) (s : Chip) → walk 0 way a b s ≡ still Nowhere s
+pub walk_none : (way : Way) (a b : ℕ) (s : Chip) → walk 0 way a b s ≡ still None s
 unfolding walk
 walk_none way a b s = refl
 
 module _ (n : ℕ) (way : Way) (a b : ℕ) (s : Chip) where
   -- a walk whose first put holds ends there
-  pub walk_hit : (put_at a b s).answer ≡ true → walk (suc n) way a b s ≡ try_at a b s giving At a
+  pub walk_hit : (put_at a b s).answer ≡ true → walk (suc n) way a b s ≡ try_at a b s giving Some a
   unfolding walk try_at
   walk_hit h = rw h
 
@@ -102,8 +101,8 @@ module _ (n : ℕ) (way : Way) (a b : ℕ) (s : Chip) where
 
   -- whatever holds in both cases holds of a walk
   walk_either :
-      (P : Run Found → Type 0)
-      → ((put_at a b s).answer ≡ true → P (try_at a b s giving At a))
+      (P : Run (Option ℕ) → Type 0)
+      → ((put_at a b s).answer ≡ true → P (try_at a b s giving Some a))
       → ((put_at a b s).answer ≡ false → P (try_at a b s then walk n way (next way a) b (put_at a b s).after))
       → P (walk (suc n) way a b s)
   walk_either P f g = go (put_at a b s).answer refl
@@ -166,15 +165,15 @@ walking (suc n) way a b s p = go (walking n way (next way a) b s p) (put_at a b 
 -- a walk touches the cells of its row alone
 pub walk_within : (n : ℕ) (way : Way) (a b : ℕ) (s : Chip) → Within (InRow n way a) s (walk n way a b s)
 unfolding walk
-walk_within zero way a b s = within_still Nowhere s
+walk_within zero way a b s = within_still None s
 walk_within (suc n) way a b s =
     let rest = walk_within n way (next way a) b (try_at a b s).after in
     within_cond (try_at a b s).answer
-    (within_giving (At a) (try_within n way a b s))
+    (within_giving (Some a) (try_within n way a b s))
     (within_then (try_within n way a b s) (within_wider (in_longer n way a) rest))
 
 -- a walk whose first cell has life ends there
-walk_first : (n : ℕ) (way : Way) (a b : ℕ) (s : Chip) → Paired s → 1 ≤ n → 1 ≤ life_at s a → walk n way a b s ≡ try_at a b s giving At a
+walk_first : (n : ℕ) (way : Way) (a b : ℕ) (s : Chip) → Paired s → 1 ≤ n → 1 ≤ life_at s a → walk n way a b s ≡ try_at a b s giving Some a
 walk_first zero way a b s p h l = absurd (omega arith)
 walk_first (suc n) way a b s p h l = walk_hit n way a b s ((put_laws a b s p).alive l)
 
@@ -201,10 +200,10 @@ walk_laws n way a b s p = record {
   tried = (walk_cost n way a b s).1;
 }
 
--- ## For code that walks: over what is said of its put, `v`, and of where the power was lost, `l`
+-- ## For code that walks: over what is said of its put
 
 -- what is left of a walk of so many cells when j of them have been passed over
-abbrev pub walk_left : ℕ → Way → ℕ → ℕ → ℕ → Chip → Run Found
+abbrev pub walk_left : ℕ → Way → ℕ → ℕ → ℕ → Chip → Run (Option ℕ)
 walk_left cells way a b j s = walk (cells - j) way (nth way a j) b s
 
 module _ (cells : ℕ) (way : Way) (a b : ℕ) where
@@ -213,11 +212,11 @@ module _ (cells : ℕ) (way : Way) (a b : ℕ) where
   walk_left_all s = rw (nth_zero, sub-zero)
 
   -- at the end, nothing
-  pub walk_left_none : (j : ℕ) (s : Chip) → j ≡ cells → walk_left cells way a b j s ≡ still Nowhere s
+  pub walk_left_none : (j : ℕ) (s : Chip) → j ≡ cells → walk_left cells way a b j s ≡ still None s
   unfolding walk
   walk_left_none j s e = rw (e, sub_self)
 
-  module _ (j at : ℕ) {n x : ℕ} {s : Chip} (inside : j < cells) (here : at ≡ nth way a j) {l : Found} {v : Seen Bool} (e : Says l v n x (put_at at b s) s) where
+  module _ (j at : ℕ) (s : Chip) (inside : j < cells) (here : at ≡ nth way a j) where
     -- there is a cell left
     more : walk_left cells way a b j s ≡ walk (suc (cells - (j + 1))) way at b s
     more = let count : cells - j ≡ suc (cells - (j + 1)) = omega arith in rw (count, ← here)
@@ -228,31 +227,32 @@ module _ (cells : ℕ) (way : Way) (a b : ℕ) where
         (λ h. starts_append (put_at at b s).log _))
 
     -- the power was lost
-    pub walk_left_lost : {y : ℕ} → l ≡ At y → Says l (seen Nowhere 0 0 v.after) n x (walk_left cells way a b j s) s
-    walk_left_lost here = said_lost e here here refl starts
+    pub walk_left_lost : {n x y : ℕ} {t : Chip} → Says (lost y t) n x (put_at at b s) s → Says (lost y t) n x (walk_left cells way a b j s) s
+    walk_left_lost e = said_lost e starts
 
-    -- what is said of the put, as a cell tried
-    tried : l ≡ Nowhere → Says Nowhere (seen v.answer v.writes 1 v.after) n x (try_at at b s) s
-    unfolding try_at
-    tried on = let said = said_view e on in says_enough (rw said at (said_enough e on)) (rw said)
+    module _ {n x : ℕ} {v : Seen Bool} (e : Says (whole v) n x (put_at at b s) s) where
+      -- what is said of the put, as a cell tried
+      tried : Says (whole (seen v.answer v.writes 1 v.after)) n x (try_at at b s) s
+      unfolding try_at
+      tried = let said = said_view e in says_enough (rw said at (said_enough e)) (rw said)
 
-    -- the put at the j-th cell held
-    pub walk_left_held : l ≡ Nowhere → v.answer ≡ true → Says Nowhere (seen (At at) v.writes 1 v.after) n x (walk_left cells way a b j s) s
-    walk_left_held on h =
-        rw (more, walk_hit (cells - (j + 1)) way at b s (said_answer (put_at at b s) (said_view e on) h)) (said_ends (tried on) refl)
+      -- the put at the j-th cell held
+      pub walk_left_held : v.answer ≡ true → Says (whole (seen (Some at) v.writes 1 v.after)) n x (walk_left cells way a b j s) s
+      walk_left_held h =
+          rw (more, walk_hit (cells - (j + 1)) way at b s (said_answer (put_at at b s) (said_view e) h)) (said_ends tried)
 
-    -- the put at the j-th cell failed
-    pub walk_left_passed : l ≡ Nowhere → v.answer ≡ false → Left 1 1 n x (walk_left cells way a b j s) s (walk_left cells way a b (j + 1) v.after) v.after
-    unfolding try_at
-    walk_left_passed on h =
-        let said = said_view e on in
-        let failed = said_answer (put_at at b s) said h in
-        let one : v.writes ≡ 1 = ap (λ (w : Seen Bool). w.writes) said ∙ ap length (put_failed at b s failed) in
-        rw (more, walk_miss (cells - (j + 1)) way at b s failed, ← nth_next, ← here)
-        (rw one at (said_left (tried on) (walk (cells - (j + 1)) way (next way at) b) refl (try_within 0 way at b s).logged))
+      -- the put at the j-th cell failed
+      pub walk_left_passed : v.answer ≡ false → Left 1 1 n x (walk_left cells way a b j s) s (walk_left cells way a b (j + 1) v.after) v.after
+      unfolding try_at
+      walk_left_passed h =
+          let said = said_view e in
+          let failed = said_answer (put_at at b s) said h in
+          let one : v.writes ≡ 1 = ap (λ (w : Seen Bool). w.writes) said ∙ ap length (put_failed at b s failed) in
+          rw (more, walk_miss (cells - (j + 1)) way at b s failed, ← nth_next, ← here)
+          (rw one at (said_left tried (walk (cells - (j + 1)) way (next way at) b) (try_within 0 way at b s).logged))
 
 -- a walk says of at most a write and a try for each cell
-pub walk_few : (n : ℕ) (way : Way) (a b : ℕ) (s : Chip) {v : Seen Found} → v ≡ view (walk n way a b s) → (v.writes ≤ v.tried) × (v.tried ≤ n)
+pub walk_few : (n : ℕ) (way : Way) (a b : ℕ) (s : Chip) {v : Seen (Option ℕ)} → v ≡ view (walk n way a b s) → (v.writes ≤ v.tried) × (v.tried ≤ n)
 walk_few n way a b s e = rw e (walk_cost n way a b s)
 
 -- a cell tried is a put, counted

@@ -1,8 +1,10 @@
 -- Mains lost in a write (document 02, P6): work that is cut goes through the first writes of its log, then through one torn
 -- write, and ends.
-use Rattle.std.specs.Prelude.{ℕ, zero, suc, ◌≡◌, List, [], ◌∷◌}
-use Rattle.cells.specs.declared.row.Found.{Found}
-use Rattle.cells.specs.declared.row.Found.TheVariants.{At, Nowhere}
+use Rattle.std.specs.Prelude.{ℕ, zero, suc, ◌≡◌, Bool, List, [], ◌∷◌, Option, Result, Ok, Err}
+use Rattle.cells.specs.declared.mains.PowerLost.{PowerLost}
+use Rattle.cells.specs.declared.put.BytePut.{BytePut}
+use Rattle.cells.specs.declared.row.Walked.{Walked}
+use Rattle.cells.specs.declared.row.RowPut.{RowPut}
 use Rattle.cells.specs.Chip.{Chip, write_at}
 use Rattle.cells.specs.Run.{Write, Run, Seen, seen, view, plus}
 
@@ -26,16 +28,21 @@ abbrev pub later : {A : Type 0} → ℕ → ℕ → Cut A → Cut A
 later w t (whole v) = whole (plus w t v)
 later w t (lost a s) = lost a s
 
--- what a function can say of it: where the power was lost, if it was, and what the work came to
-abbrev pub sight : {A : Type 0} → Found → Seen A → Cut A
-sight (At a) v = lost a v.after
-sight Nowhere v = whole v
+-- what a function says of it: what it shows of work that is whole, on the chip as it then is, or where the power was lost
+abbrev pub sight : {A B : Type 0} → (B → Chip → Seen A) → Result B PowerLost → Chip → Cut A
+sight shows (Ok x) t = whole (shows x t)
+sight shows (Err loss) t = lost loss.at t
 
--- and that it is so of a piece of work
-pub record Says {A : Type 0} (where-lost : Found) (v : Seen A) (n b : ℕ) (r : Run A) (s : Chip) : Type 0 where
-  pub so : sight where-lost v ≡ cut n b r s
+-- and that it is so of a piece of work that started on a chip
+pub record Says {A : Type 0} (x : Cut A) (n b : ℕ) (r : Run A) (s : Chip) : Type 0 where
+  pub so : x ≡ cut n b r s
 
--- and that nothing is said besides the chip where the power was lost: some answer, no writes and no tries
-pub record Tells {A : Type 0} (nothing : A) (where-lost : Found) (v : Seen A) (n b : ℕ) (r : Run A) (s : Chip) : Type 0 where
-  pub says : Says where-lost v n b r s
-  pub mute : (a : ℕ) → where-lost ≡ At a → v ≡ seen nothing 0 0 v.after
+-- what is shown of a put, of a walk, and of a row
+abbrev pub put_shows : BytePut → Chip → Seen Bool
+put_shows done t = seen done.held done.writes 0 t
+
+abbrev pub walk_shows : Walked → Chip → Seen (Option ℕ)
+walk_shows walked t = seen walked.found walked.writes walked.tried t
+
+abbrev pub row_shows : RowPut → Chip → Seen (Option ℕ)
+row_shows row t = seen row.failed row.writes 0 t

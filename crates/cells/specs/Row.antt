@@ -1,9 +1,7 @@
 -- Rows of cells (document 01, "The map" and "Storing, opening, stepping").
-use Rattle.std.specs.Prelude.{ℕ, zero, suc, ◌+◌, ◌-◌, ◌≤◌, ◌<◌, Bool, cond, List, [], ◌∷◌}
+use Rattle.std.specs.Prelude.{ℕ, zero, suc, ◌+◌, ◌-◌, ◌≤◌, ◌<◌, Bool, cond, List, [], ◌∷◌, Option, Some, None}
 use Rattle.cells.specs.declared.row.Way.{Way}
 use Rattle.cells.specs.declared.row.Way.TheVariants.{Up, Down}
-use Rattle.cells.specs.declared.row.Found.{Found}
-use Rattle.cells.specs.declared.row.Found.TheVariants.{At, Nowhere}
 use Rattle.cells.specs.Chip.{Chip}
 use Rattle.cells.specs.Run.{Write, write, Run, run, still, ◌then◌, ◌giving◌}
 use Rattle.cells.specs.Put.{put_at}
@@ -33,20 +31,20 @@ unfoldable pub try_at : ℕ → ℕ → Chip → Run Bool
 try_at a b s = let r = put_at a b s in run r.answer r.log 1 r.after
 
 -- n cells from a on are tried, one after another, until one holds the byte: where it held
-unfoldable pub walk : ℕ → Way → ℕ → ℕ → Chip → Run Found
-walk zero way a b s = still Nowhere s
+unfoldable pub walk : ℕ → Way → ℕ → ℕ → Chip → Run (Option ℕ)
+walk zero way a b s = still None s
 walk (suc n) way a b s =
     let r = try_at a b s in
     let rest = r then walk n way (next way a) b r.after in
-    cond r.answer (r giving At a) rest
+    cond r.answer (r giving Some a) rest
 
 -- bytes put at neighbouring cells from a on, up to the first that does not hold: where that was
-unfoldable pub put_row : List ℕ → ℕ → Chip → Run Found
-put_row [] a s = still Nowhere s
+unfoldable pub put_row : List ℕ → ℕ → Chip → Run (Option ℕ)
+put_row [] a s = still None s
 put_row (b ∷ bs) a s =
     let r = put_at a b s in
     let rest = r then put_row bs (a + 1) r.after in
-    cond r.answer rest (r giving At a)
+    cond r.answer rest (r giving Some a)
 
 -- the byte asked of each of the n cells from a on
 unfoldable pub asks : ℕ → Way → ℕ → ℕ → List Write

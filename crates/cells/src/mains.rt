@@ -1,12 +1,10 @@
 // Mains that can be lost in a write (document 02, P6).
-ghost use Rattle.std.specs.Prelude.{◌≡◌, false, ◌-◌, ◌^◌, ◌≤◌, ◌<◌, length};
+ghost use Rattle.std.specs.Prelude.{◌≡◌, ◌-◌, ◌^◌, ◌≤◌, ◌<◌, length};
 ghost use Rattle.cells.specs.Chip.{chip};
-ghost use Rattle.cells.specs.Run.{seen};
 ghost use Rattle.cells.specs.Put.{put_at};
-ghost use Rattle.cells.specs.Cut.{Tells};
+ghost use Rattle.cells.specs.Cut.{Says, sight, put_shows};
 
-use crate::put::{put, write};
-use crate::row::Found;
+use crate::put::{BytePut, put, write};
 
 // Power for so many writes, and the byte that the write behind them leaves.
 #[derive(Clone, Copy)]
@@ -38,33 +36,28 @@ impl Mains {
     }
 }
 
-// What a put came to: where the power was lost, if it was; else whether the byte is there, and the writes asked for.
+// The power was lost in the write to an address.
 #[derive(Clone, Copy)]
-pub struct PowerPut {
-    pub lost: Found,
-    pub held: bool,
-    pub writes: usize,
+pub struct PowerLost {
+    pub at: usize,
 }
 
 // A put whose write is torn where no power is left for it.
-pub fn put_on(image: &mut [u8], lives: &mut [u32], at: usize, byte: u8, mains: Mains) -> PowerPut
+pub fn put_on(
+    image: &mut [u8],
+    lives: &mut [u32],
+    at: usize,
+    byte: u8,
+    mains: Mains,
+) -> Result<BytePut, PowerLost>
     requires { (at < length image.old) × (length lives.old ≡ length image.old) }
-    ensures { Tells false result.lost (seen result.held result.writes 0 (chip image.new lives.new)) mains.power mains.torn (put_at at byte (chip image.old lives.old)) (chip image.old lives.old) }
+    ensures { Says (sight put_shows result (chip image.new lives.new)) mains.power mains.torn (put_at at byte (chip image.old lives.old)) (chip image.old lives.old) }
 {
     if mains.power == 0 {
         if image[at] != byte {
             write(image, lives, at, mains.torn);
-            return PowerPut {
-                lost: Found::At(at),
-                held: false,
-                writes: 0,
-            };
+            return Err(PowerLost { at });
         }
     }
-    let done = put(image, lives, at, byte);
-    PowerPut {
-        lost: Found::Nowhere,
-        held: done.held,
-        writes: done.writes,
-    }
+    Ok(put(image, lives, at, byte))
 }

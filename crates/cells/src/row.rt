@@ -1,11 +1,10 @@
 // Rows of cells: one byte tried along a row until a cell holds it, and bytes put at neighbouring cells.
 ghost use Rattle.std.specs.Prelude.{◌≡◌, ◌+◌, ◌^◌, ◌≤◌, length};
 ghost use Rattle.cells.specs.Chip.{chip};
-ghost use Rattle.cells.specs.Run.{seen};
 ghost use Rattle.cells.specs.Row.{RowFits, nth, walk, put_row};
-ghost use Rattle.cells.specs.Cut.{Tells};
+ghost use Rattle.cells.specs.Cut.{Says, sight, walk_shows, row_shows};
 
-use crate::mains::{Mains, put_on};
+use crate::mains::{Mains, PowerLost, put_on};
 
 // Which way a row goes.
 #[derive(Clone, Copy)]
@@ -14,27 +13,18 @@ pub enum Way {
     Down,
 }
 
-// An address, or none.
-#[derive(Clone, Copy)]
-pub enum Found {
-    At(usize),
-    Nowhere,
-}
-
-// What a walk came to: where the power was lost, if it was; else where the byte held, the writes asked for, and the cells tried.
+// What a walk came to: where the byte held, if it did, the writes asked for, and the cells tried.
 #[derive(Clone, Copy)]
 pub struct Walked {
-    pub lost: Found,
-    pub found: Found,
+    pub found: Option<usize>,
     pub writes: usize,
     pub tried: usize,
 }
 
-// What putting a row came to: where the power was lost, if it was; else where a put failed, and the writes asked for.
+// What putting a row came to: where a put failed, if one did, and the writes asked for.
 #[derive(Clone, Copy)]
 pub struct RowPut {
-    pub lost: Found,
-    pub failed: Found,
+    pub failed: Option<usize>,
     pub writes: usize,
 }
 
@@ -58,71 +48,52 @@ pub fn walk(
     from: usize,
     byte: u8,
     mains: Mains,
-) -> Walked
+) -> Result<Walked, PowerLost>
     requires { (RowFits (length image.old) way from cells) × (length lives.old ≡ length image.old) }
-    ensures { Tells Found.Nowhere result.lost (seen result.found result.writes result.tried (chip image.new lives.new)) mains.power mains.torn (walk cells way from byte (chip image.old lives.old)) (chip image.old lives.old) }
+    ensures { Says (sight walk_shows result (chip image.new lives.new)) mains.power mains.torn (walk cells way from byte (chip image.old lives.old)) (chip image.old lives.old) }
 {
-    let mut j = 0;
-    while j < cells {
+    for j in 0..cells {
         let at = nth(way, from, j);
-        let done = put_on(image, lives, at, byte, mains.behind(j));
-        let lost = done.lost;
-        if let Found::At(_) = lost {
-            return Walked {
-                lost,
-                found: Found::Nowhere,
-                writes: 0,
-                tried: 0,
-            };
-        }
+        let done = put_on(image, lives, at, byte, mains.behind(j))?;
         if done.held {
-            return Walked {
-                lost: Found::Nowhere,
-                found: Found::At(at),
+            return Ok(Walked {
+                found: Some(at),
                 writes: j + done.writes,
                 tried: j + 1,
-            };
+            });
         }
-        j += 1;
     }
-    Walked {
-        lost: Found::Nowhere,
-        found: Found::Nowhere,
+    Ok(Walked {
+        found: None,
         writes: cells,
         tried: cells,
-    }
+    })
 }
 
 // Each byte is put in its cell, up to the first put that fails.
-pub fn put_row(image: &mut [u8], lives: &mut [u32], at: usize, bytes: &[u8], mains: Mains) -> RowPut
+pub fn put_row(
+    image: &mut [u8],
+    lives: &mut [u32],
+    at: usize,
+    bytes: &[u8],
+    mains: Mains,
+) -> Result<RowPut, PowerLost>
     requires { (at + length bytes.now ≤ length image.old) × (length lives.old ≡ length image.old) }
-    ensures { Tells Found.Nowhere result.lost (seen result.failed result.writes 0 (chip image.new lives.new)) mains.power mains.torn (put_row bytes.now at (chip image.old lives.old)) (chip image.old lives.old) }
+    ensures { Says (sight row_shows result (chip image.new lives.new)) mains.power mains.torn (put_row bytes.now at (chip image.old lives.old)) (chip image.old lives.old) }
 {
     let mut writes = 0;
-    let mut i = 0;
-    while i < bytes.len() {
-        let done = put_on(image, lives, at + i, bytes[i], mains.behind(writes));
-        let lost = done.lost;
-        if let Found::At(_) = lost {
-            return RowPut {
-                lost,
-                failed: Found::Nowhere,
-                writes: 0,
-            };
-        }
+    for (i, byte) in bytes.iter().enumerate() {
+        let done = put_on(image, lives, at + i, *byte, mains.behind(writes))?;
         writes += done.writes;
         if !done.held {
-            return RowPut {
-                lost: Found::Nowhere,
-                failed: Found::At(at + i),
+            return Ok(RowPut {
+                failed: Some(at + i),
                 writes,
-            };
+            });
         }
-        i += 1;
     }
-    RowPut {
-        lost: Found::Nowhere,
-        failed: Found::Nowhere,
+    Ok(RowPut {
+        failed: None,
         writes,
-    }
+    })
 }

@@ -13,11 +13,11 @@ use native.Mathlib.Nat.{lt_of_le_of_lt, div-le_self, div-one, pow-suc, zero-add,
 use native.Mathlib.Numerals.{one-add}
 use native.Mathlib.Omega.{arith}
 use lib.Arith.{lt-one}
-use lib.Bits.{bit_xor, xor_lt, xor_shr, xor_zero_l, xor_zero_r}
+use lib.Bits.{bit_xor, xor_assoc, xor_lt, xor_shr, xor_zero_l, xor_zero_r}
 use lib.Dec.{lit<}
 use lib.Pow.{shr-shr}
 use Rattle.code.specs.Gray.{bits, gray_of, halves_of, count_of}
-use Rattle.code.proofs.XorLaws.{xor_assoc, xor_back}
+use Rattle.code.proofs.XorLaws.{xor_back}
 
 -- a half has one bit less
 half_less : (k g : ℕ) → g < 2 ^ suc k → g / 2 < 2 ^ k

@@ -1,6 +1,7 @@
 -- The laws of mended bits (document 02, P1 and P3).
 --   tally_of_bits  16 bytes are mended in each of the bits 0 to 6, and 14 in bit 7
 --   many_most      of n numbers the test holds of at most n
+--   in_none        what was not mended was mended in no bit
 --   one_more       a count of one bit more
 --   counts_same    readings that agree give the same counts
 --   counts_none    readings of which none was mended give no counts
@@ -49,6 +50,13 @@ many_none zero test none = refl
 many_none (suc n) test none = rw (many_none n test (λ k l. none k (omega arith)), none n (omega arith))
 
 -- ---- the counts
+
+-- what was not mended was mended in no bit
+pub in_none : (i : ℕ) (r : Reading) → ((d bit : ℕ) → r ≡ Mended d bit → ⊥) → mended_in i r ≡ false
+unfolding mended_in
+in_none i (Clean d) other = refl
+in_none i (Mended d bit) other = absurd (other d bit refl)
+in_none i Lost other = refl
 
 -- a count of one bit more
 pub one_more : (counts : List ℕ) (bit : ℕ) → bit < length counts → (i : ℕ) → get_or (set counts bit (get_or counts bit 0 + 1)) i 0 ≡ get_or counts i 0 + cond (eqb bit i) 1 0

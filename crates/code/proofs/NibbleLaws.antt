@@ -4,25 +4,25 @@
 --   nibble_small        a nibble is below 16
 --   nibble_past         a word of 32 bits has nothing past its eighth nibble
 --   word_small          n nibbles make a word below 16 ^ n
---   word_drop_small     so do the nibbles from k on, where they are at most n
---   word_none           no nibbles from k on make the word 0
---   word_more           the word of the nibbles from k - 1 on, by that of the nibbles from k on
+--   with_nibble         a word with one nibble more, below the others
+--   word_folds          at most eight nibbles, taken in from the highest on, make their word
 --   word_of_nibbles     the word of a word's nibbles is that word
 --   nibble_zero         the nibbles of 0
 --   nibble_of_word      the nibbles of a word of nibbles
 --   laid_over           a nibble laid over n others: Laid
 use mathlib.Core.Path.{◌≡◌, refl, sym, ap, ◌∙◌}
-use mathlib.Core.List.{List, [], ◌∷◌}
+use mathlib.Core.List.{List, [], ◌∷◌, reverse}
 use Prim.Native.Nat.{ℕ, zero, suc, ◌+◌, ◌-◌, ◌*◌, ◌/◌, ◌%◌, ◌^◌, ◌≤◌, ◌<◌}
-use native.Mathlib.Nat.{not-suc-le-zero, pow-suc, mul-suc, one-le-pow, pow-le-pow_right, lt_of_lt_of_le, mod-lt, mod-eq_of_lt, mod-one, div-one, div-eq_of_lt, div-div-eq-div-mul, zero-div, mul_comm, mul_assoc, mul-le-mul_right, mul-add-div_right, mul-add-mod_self_right}
-use native.Mathlib.Numerals.{sub-one}
+use native.Mathlib.Nat.{pow-suc, mul-suc, one-le-pow, pow-le-pow_right, lt_of_lt_of_le, mod-lt, mod-eq_of_lt, mod-one, div-one, div-eq_of_lt, div-div-eq-div-mul, zero-div, mul_comm, mul_assoc, mul-le-mul_right, mul-add-div_right, mul-add-mod_self_right}
 use native.Mathlib.Omega.{arith}
 use lib.Arith.{mod-mul, digits_div}
-use lib.Bits.{bit_or, or_shifted_r}
+use lib.Bits.{bit_or, or_shifted, or_shifted_r}
 use lib.Dec.{lit<}
-use lib.ListN.{length, get_or, drop, length-drop, drop_of_length-le}
+use lib.ListN.{length, get_or}
 use lib.Pow.{pow-add, shl_exact}
-use lib.Seq.{drop-cons}
+use Rattle.std.specs.List.{fold}
+use Rattle.std.proofs.lemmas.List.{reverse-append}
+use Rattle.std.proofs.lemmas.List.Sums.{fold-append}
 use Rattle.code.specs.Tabulate.{tabulate}
 use Rattle.code.specs.Nibbles.{nibble_of, word_of}
 use Rattle.code.proofs.TabulateLaws.{at}
@@ -53,21 +53,26 @@ unfolding word_of
 word_small [] = lit< tt
 word_small (n ∷ ns) = let h = word_small ns in let e = pow-suc 16 (length ns) in omega arith
 
--- so do the nibbles from k on, where they are at most n
-pub word_drop_small : (ns : List ℕ) (k n : ℕ) → length ns ≤ k + n → word_of (drop k ns) < 16 ^ n
-word_drop_small ns k n h =
-    lt_of_lt_of_le (word_small (drop k ns)) (pow-le-pow_right (lit< tt) (simp length-drop (omega arith)))
+-- a word with one nibble more, below the others
+abbrev pub with_nibble : ℕ → ℕ → ℕ
+with_nibble w n = bit_or ((w * 2 ^ 4) % 2 ^ 32) (n % 16)
 
--- no nibbles from k on make the word 0
-pub word_none : (ns : List ℕ) (k : ℕ) → length ns ≤ k → word_of (drop k ns) ≡ 0
-unfolding word_of
-word_none ns k h = ap word_of (drop_of_length-le ns h)
+-- where nothing is shifted out, it is sixteen times the word and the nibble
+with_nibble_lem : (w n : ℕ) → w < 16 ^ 7 → with_nibble w n ≡ n % 16 + 16 * w
+with_nibble_lem w n fits =
+    ap (λ (x : ℕ). bit_or x (n % 16)) (shl_exact 28 4 32 (omega arith) (omega arith)) ∙ or_shifted w 4 (n % 16) (mod-lt n (lit< tt)) ∙ omega arith
 
--- the word of the nibbles from k - 1 on, by that of the nibbles from k on
-pub word_more : (ns : List ℕ) (k : ℕ) → 0 < k → k ≤ length ns → word_of (drop k ns) * 16 + get_or ns (k - 1) 0 % 16 ≡ word_of (drop (k - 1) ns)
+-- at most eight nibbles, taken in from the highest on, make their word
+pub word_folds : (ns : List ℕ) → length ns ≤ 8 → fold with_nibble 0 (reverse ns) ≡ word_of ns
 unfolding word_of
-word_more ns zero p h = absurd (not-suc-le-zero p)
-word_more ns (suc k) p h = rw (sub-one (suc k), drop-cons ns k 0 h) (omega arith)
+word_folds [] few = refl
+word_folds (n ∷ ns) few =
+    let seven : length ns ≤ 7 = omega arith in
+    let small : word_of ns < 16 ^ 7 = lt_of_lt_of_le (word_small ns) (pow-le-pow_right (lit< tt) seven) in
+    ap (fold with_nibble 0) (reverse-append (n ∷ []) ns)
+    ∙ fold-append with_nibble 0 (reverse ns) (n ∷ [])
+    ∙ ap (λ (w : ℕ). with_nibble w n) (word_folds ns (omega arith))
+    ∙ with_nibble_lem (word_of ns) n small
 
 -- what stands above nibble i
 above : (w i : ℕ) → w / 16 ^ suc i ≡ w / 16 ^ i / 16

@@ -8,6 +8,7 @@ const CODES: [u8; 16] = [
 ];
 
 // The code of a nibble; of a larger number only the low four bits count.
+#[tactic(auto, unfolding(crate::specs::Codes::codes, crate::specs::Codes::code_of))]
 pub fn code_of(nibble: u8) -> u8
     ensures { result ≡ code_of nibble }
 {
@@ -15,8 +16,9 @@ pub fn code_of(nibble: u8) -> u8
 }
 
 // The number of bits in which two bytes differ.
+#[tactic(auto, unfolding(crate::specs::Codes::distance))]
 pub fn distance_of(a: u8, b: u8) -> u32
     ensures { result ≡ distance a b }
 {
-    u8::count_ones(a ^ b)
+    (a ^ b).count_ones()
 }

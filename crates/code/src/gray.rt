@@ -3,6 +3,7 @@ ghost use Rattle.std.specs.Prelude.{◌≡◌};
 ghost use Rattle.code.specs.Gray.{gray_of, count_of, changed_bit};
 
 // The Gray word of a count.
+#[tactic(auto, unfolding(crate::specs::Gray::gray_of))]
 pub fn gray_of(count: u32) -> u32
     ensures { result ≡ gray_of count }
 {
@@ -21,8 +22,9 @@ pub fn count_of(gray: u32) -> u32
 }
 
 // The number of the one bit in which the Gray words of count - 1 and count differ.
+#[tactic(auto, unfolding(crate::specs::Gray::bits, crate::specs::Gray::changed_bit))]
 pub fn changed_bit(count: u32) -> u32
     ensures { result ≡ changed_bit count }
 {
-    u32::trailing_zeros(count)
+    count.trailing_zeros()
 }

@@ -5,21 +5,15 @@ ghost use Rattle.code.specs.Entries.{reading_at};
 ghost use Rattle.code.specs.Mended.{mended_in, bit_counts};
 
 use super::reading::{Reading, reading_at};
-use super::table::{laid, wide};
+use super::table::{entry_of, wide};
 
 // Adds an entry to the counts of the bits: one to that in which it was mended, if it was.
 fn add_entry(counts: &mut [u32; 8], entry: u8)
     requires { (length counts.old ≡ 8) × ((i : ℕ) → i < 8 → get_or counts.old i 0 < 4294967295) }
     ensures { (length counts.new ≡ 8) × ((i : ℕ) → i < 8 → get_or counts.new i 0 ≡ get_or counts.old i 0 + cond (mended_in i (reading_at entry)) 1 0) }
 {
-    let reading = reading_at(entry);
-    match reading {
-        Reading::Clean(_) => {}
-        Reading::Mended(_, bit) => {
-            let at = wide(bit);
-            counts[at] = counts[at] + 1;
-        }
-        Reading::Lost => {}
+    if let Reading::Mended(_, bit) = reading_at(entry) {
+        counts[wide(bit)] += 1;
     }
 }
 
@@ -27,12 +21,9 @@ fn add_entry(counts: &mut [u32; 8], entry: u8)
 pub fn mended_bits(bytes: &[u8; 16]) -> [u32; 8]
     ensures { result ≡ bit_counts 16 (λ k. reading_of (get_or bytes.now k 0)) }
 {
-    let table = laid();
     let mut counts = [0u32; 8];
-    let mut k = 0;
-    while k < 16 {
-        add_entry(&mut counts, table[wide(bytes[k])]);
-        k += 1;
+    for byte in bytes {
+        add_entry(&mut counts, entry_of(*byte));
     }
     counts
 }

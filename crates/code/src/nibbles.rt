@@ -3,6 +3,7 @@ ghost use Rattle.std.specs.Prelude.{◌≡◌};
 ghost use Rattle.code.specs.Nibbles.{nibble_of, word_of};
 
 // Nibble k of a word; 0 past the eighth.
+#[tactic(auto, using(crate::proofs::NibbleLaws::sixteens, crate::proofs::NibbleLaws::nibble_past), unfolding(crate::specs::Nibbles::nibble_of))]
 pub fn nibble_of(word: u32, k: usize) -> u8
     ensures { result ≡ nibble_of word k }
 {
@@ -17,11 +18,8 @@ pub fn nibble_of(word: u32, k: usize) -> u8
 pub fn word_of(nibbles: [u8; 8]) -> u32
     ensures { result ≡ word_of nibbles }
 {
-    let mut word: u32 = 0;
-    let mut k: usize = 8;
-    while 0 < k {
-        k = k - 1;
-        word = word * 16 + (nibbles[k] % 16) as u32;
-    }
-    word
+    nibbles
+        .iter()
+        .rev()
+        .fold(0, |word, nibble| (word << 4) | (*nibble % 16) as u32)
 }

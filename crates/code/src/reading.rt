@@ -7,7 +7,7 @@ use super::table::entry_of;
 
 // What a byte reads as: a nibble's own code; a byte one bit from it, with that bit's number, 0 (lowest) to 7; or nothing that
 // can be told, as 00 and FF, which erased cells show.
-#[derive(Clone, Copy)]
+#[derive(Clone, Copy, Debug, PartialEq, Eq)]
 pub enum Reading {
     Clean(u8),
     Mended(u8, u8),
@@ -42,6 +42,7 @@ pub fn twofold_at(entry: u8) -> bool
 }
 
 // What a byte reads as.
+#[tactic(auto, using(crate::proofs::ReadingLaws::entry_reading))]
 pub fn reading_of(byte: u8) -> Reading
     ensures { result ≡ reading_of byte }
 {
@@ -49,6 +50,7 @@ pub fn reading_of(byte: u8) -> Reading
 }
 
 // Whether a byte is one bit from two codes (refusal 10): no byte is.
+#[tactic(auto, using(crate::proofs::ReadingLaws::entry_twofold))]
 pub fn twofold_byte(byte: u8) -> bool
     ensures { result ≡ twofold byte }
 {
@@ -56,23 +58,20 @@ pub fn twofold_byte(byte: u8) -> bool
 }
 
 // Whether a reading tells nothing.
+#[tactic(auto, unfolding(crate::specs::Readings::is_lost))]
 pub fn is_lost(reading: Reading) -> bool
     ensures { result ≡ is_lost reading }
 {
-    match reading {
-        Reading::Clean(_) => false,
-        Reading::Mended(_, _) => false,
-        Reading::Lost => true,
-    }
+    matches!(reading, Reading::Lost)
 }
 
 // The nibble that a reading gives, 0 where it is lost.
+#[tactic(auto, unfolding(crate::specs::Readings::nibble_read))]
 pub fn nibble_read(reading: Reading) -> u8
     ensures { result ≡ nibble_read reading }
 {
     match reading {
-        Reading::Clean(d) => d,
-        Reading::Mended(d, _) => d,
+        Reading::Clean(d) | Reading::Mended(d, _) => d,
         Reading::Lost => 0,
     }
 }

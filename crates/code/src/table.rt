@@ -1,7 +1,7 @@
 // The table of 256 entries, one for each byte, in which a byte's reading is looked up (document 01, "Nibbles, bytes and Gray
 // words"; document 02, P3). A byte that is the code of d has the entry d, one mended to d in bit i has 16 + 8 * d + i, a lost one
 // has 144, and one that is one bit from two codes would have 145. 00 and FF, which erased cells show, are lost, though each is
-// one bit from a code.
+// one bit from a code. Entries are numbers, not values of an enum, so that to read one is to load a byte.
 ghost use Rattle.std.specs.Prelude.{◌≡◌, ℕ, ◌<◌, get_or};
 ghost use Rattle.code.specs.Entries.{entry_of, entries};
 
@@ -30,45 +30,32 @@ pub fn lent() -> &'static [u8; 256]
     &TABLE
 }
 
-// A table of one's own.
+// A table of one's own. It stands beside `lent`, since docs/PROMISES.md names it.
 pub fn laid() -> [u8; 256]
     ensures { result ≡ entries }
 {
     *lent()
 }
 
-// A byte as a number of any size.
+// A byte as a number of any size. Public and promised, so it stands beside `usize::from`.
 pub fn wide(byte: u8) -> usize
     ensures { (result ≡ byte) × (result < 256) }
 {
     byte as usize
 }
 
-// The entry of a byte in a table that is lent.
-fn entry_in(table: &[u8; 256], byte: u8) -> u8
-    ensures { result ≡ get_or table.now byte 0 }
-{
-    table[byte as usize]
-}
-
 // The entry of a byte.
+#[tactic(auto, using(crate::proofs::ReadingLaws::entry_at))]
 pub(crate) fn entry_of(byte: u8) -> u8
     ensures { result ≡ entry_of byte }
 {
-    let table = laid();
-    entry_in(&table, byte)
+    lent()[wide(byte)]
 }
 
 // The entries of sixteen bytes.
+#[tactic(auto, using(crate::proofs::ReadingLaws::entry_at))]
 pub fn entries_of(bytes: &[u8; 16]) -> [u8; 16]
     ensures { (k : ℕ) → k < 16 → (get_or result k 0 ≡ entry_of (get_or bytes.now k 0)) × (get_or bytes.now k 0 < 256) }
 {
-    let table = laid();
-    let mut read = [0u8; 16];
-    let mut k = 0;
-    while k < 16 {
-        read[k] = table[wide(bytes[k])];
-        k += 1;
-    }
-    read
+    bytes.map(entry_of)
 }

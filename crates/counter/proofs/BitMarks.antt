@@ -1,6 +1,6 @@
 -- Numbers marked in a word of bits: its ones are as many as the numbers only if no two have the same bit.
 --   Marks                     the word of some numbers, of which there are so many
---   marks_none, marks_more    of none, and of one more
+--   marks_more                of one more
 --   marks_same                told of the same numbers in another way
 --   or_left, or_right         a word with more bits is no smaller
 --   xor_none                  words that differ in no bit
@@ -65,10 +65,6 @@ pub record Marks (Of : ℕ → Type 0) (many : ℕ) (place : ℕ → ℕ) (word 
   pub few : ones word ≤ many
   pub marks : (k : ℕ) → Of k → word / 2 ^ place k % 2 ≡ 1
   pub apart : ones word ≡ many → Differ Of place
-
-pub marks_none : (Of : ℕ → Type 0) (place : ℕ → ℕ) → ((k : ℕ) → Of k → ⊥) → Marks Of 0 place 0
-unfolding ones
-marks_none Of place none = record { few = omega arith; marks = λ k o. absurd (none k o); apart = λ h i j o o' d e. none i o }
 
 pub marks_more :
     {Of : ℕ → Type 0} {many : ℕ} {place : ℕ → ℕ} {word : ℕ} → Marks Of many place word → (k : ℕ)

@@ -13,7 +13,7 @@
 --   read_is, read_good, read_refused  the answer of read is that of its verdict, and what a good one and a refusal say
 --   read_uncounted            a read that is refused answers count 0
 --   read_unsized, read_unplaced  1 where the length is not good, and else 2 where the settings are not
-use Rattle.std.proofs.Common.{◌≡◌, ℕ, ◌≤◌, true, false, ◌⊎◌, List, length, ℤ, sym, refl, ap, ◌∙◌, inl, inr, true≢false, arith}
+use Rattle.std.proofs.Common.{◌≡◌, ℕ, ◌≤◌, true, false, ◌⊎◌, List, length, ℤ, sym, refl, ap, ◌∙◌, inl, inr, true≢false, arith, Ok, Err}
 use Rattle.cells.specs.Chip.{Chip}
 use Rattle.cells.specs.Run.{Run, view}
 use Rattle.cells.specs.Cut.{Cut.whole, cut}
@@ -22,12 +22,9 @@ use Rattle.counter.specs.declared.places.Places.{Places}
 use Rattle.counter.specs.declared.verdict.Answer.{Answer}
 use Rattle.counter.specs.declared.verdict.Refusal.{Refusal}
 use Rattle.counter.specs.declared.verdict.Refusal.TheVariants.{BadLength, BadPlaces, NoMark, UnsoundMap, BadCopy, TwoCodes, LostNibble, Apart, LastCount, NoSpare, MapByte, PowerLost}
-use Rattle.counter.specs.declared.verdict.Verdict.{Verdict}
-use Rattle.counter.specs.declared.verdict.Verdict.TheVariants.{Good, Refused}
-use Rattle.counter.specs.declared.verdict.Work.{Work}
 use Rattle.counter.specs.Layout.{Layout}
 use Rattle.counter.specs.Places.{length_good, places_good}
-use Rattle.counter.specs.Verdict.{answer, refusal_of, answer_of, Outcome, outcome_of, ◌ending_in◌}
+use Rattle.counter.specs.Verdict.{answer, refusal_of, answer_of, Outcome, outcome_of, ◌ending_in◌, Verdict, Work, read_as}
 use Rattle.counter.specs.Reading.{verdict_of}
 use Rattle.counter.proofs.Moves.{Ended, Ended.done, Ended.roomless, Ended.unmapped}
 use Rattle.counter.proofs.GoodVerdicts.{of_storing, cells_reads}
@@ -66,10 +63,10 @@ refusal_uncounted (NoSpare k) w t = refl
 refusal_uncounted (MapByte a) w t = refl
 refusal_uncounted (PowerLost a) w t = refl
 
-pub code_good : (v : Verdict) (writes tried : ℕ) → (answer_of v writes tried).code ≡ 0 → (c : ℕ) × (lag : ℤ) × (v ≡ Good c lag)
+pub code_good : (v : Verdict) (writes tried : ℕ) → (answer_of v writes tried).code ≡ 0 → (c : ℕ) × (lag : ℤ) × (v ≡ read_as c lag)
 unfolding answer_of
-code_good (Good c lag) w t e = (c, lag, refl)
-code_good (Refused why) w t e = let h = refusal_code why w t in absurd (omega arith)
+code_good (Ok (c, lag)) w t e = (c, lag, refl)
+code_good (Err why) w t e = let h = refusal_code why w t in absurd (omega arith)
 
 refusal_eight : (why : Refusal) (writes tried : ℕ) → (refusal_of why writes tried).code ≡ 8 → why ≡ NoSpare (refusal_of why writes tried).place
 refusal_eight BadLength w t e = absurd (omega arith)
@@ -100,39 +97,39 @@ refusal_lit (NoSpare k) w t reads e = omega arith
 refusal_lit (MapByte a) w t reads e = omega arith
 refusal_lit (PowerLost a) w t reads e = true≢false reads
 
-pub code_eight : (v : Verdict) (writes tried : ℕ) → (answer_of v writes tried).code ≡ 8 → v ≡ Refused (NoSpare (answer_of v writes tried).place)
+pub code_eight : (v : Verdict) (writes tried : ℕ) → (answer_of v writes tried).code ≡ 8 → v ≡ Err (NoSpare (answer_of v writes tried).place)
 unfolding answer_of
-code_eight (Good c lag) w t e = absurd (omega arith)
-code_eight (Refused why) w t e = ap Refused (refusal_eight why w t e)
+code_eight (Ok (c, lag)) w t e = absurd (omega arith)
+code_eight (Err why) w t e = ap Err (refusal_eight why w t e)
 
 -- what a call answers whose work ended so
 module _ (r : Run Verdict) where
-  pub good_says : {c : ℕ} {lag : ℤ} → r.answer ≡ Good c lag → (outcome_of r).says ≡ answer 0 c lag 0 (length r.log) r.tried
+  pub good_says : {c : ℕ} {lag : ℤ} → r.answer ≡ read_as c lag → (outcome_of r).says ≡ answer 0 c lag 0 (length r.log) r.tried
   unfolding answer_of
   good_says e = rw e
 
-  pub refused_code : {why : Refusal} → r.answer ≡ Refused why → 1 ≤ (outcome_of r).says.code
+  pub refused_code : {why : Refusal} → r.answer ≡ Err why → 1 ≤ (outcome_of r).says.code
   unfolding answer_of
   refused_code {why} e = rw e (refusal_code why (length r.log) r.tried)
 
-  pub spareless_code : {k : ℕ} → r.answer ≡ Refused (NoSpare k) → (outcome_of r).says.code ≡ 8
+  pub spareless_code : {k : ℕ} → r.answer ≡ Err (NoSpare k) → (outcome_of r).says.code ≡ 8
   unfolding answer_of
   spareless_code e = rw e
 
-  pub spareless_place : {k : ℕ} → r.answer ≡ Refused (NoSpare k) → (outcome_of r).says.place ≡ k
+  pub spareless_place : {k : ℕ} → r.answer ≡ Err (NoSpare k) → (outcome_of r).says.place ≡ k
   unfolding answer_of
   spareless_place e = rw e
 
-  pub mapless_code : {a : ℕ} → r.answer ≡ Refused (MapByte a) → (outcome_of r).says.code ≡ 9
+  pub mapless_code : {a : ℕ} → r.answer ≡ Err (MapByte a) → (outcome_of r).says.code ≡ 9
   unfolding answer_of
   mapless_code e = rw e
 
-  pub reading_code : (why : Refusal) → of_storing why ≡ false → r.answer ≡ Refused why → (outcome_of r).says.code ≡ 11 → ⊥
+  pub reading_code : (why : Refusal) → of_storing why ≡ false → r.answer ≡ Err why → (outcome_of r).says.code ≡ 11 → ⊥
   unfolding answer_of
   reading_code why reads e = rw e (refusal_lit why (length r.log) r.tried reads)
 
 -- a call that is its storing answers the spares that it tried, however it ended
-pub storing_tried : (c : ℕ) (lag : ℤ) (r : Run Work) → Ended r.answer → (outcome_of (r ending_in Good c lag)).says.tried ≡ r.tried
+pub storing_tried : (c : ℕ) (lag : ℤ) (r : Run Work) → Ended r.answer → (outcome_of (r ending_in read_as c lag)).says.tried ≡ r.tried
 unfolding answer_of
 storing_tried c lag r (done e) = rw e
 storing_tried c lag r (roomless k e) = rw e
@@ -145,11 +142,11 @@ module _ (layout : Layout) (p : Places) where
   unfolding read_of
   read_is cells = refl
 
-  pub read_good : {c : ℕ} {lag : ℤ} (cells : List ℕ) → verdict_of layout p cells ≡ Good c lag → read_of layout p cells ≡ answer 0 c lag 0 0 0
+  pub read_good : {c : ℕ} {lag : ℤ} (cells : List ℕ) → verdict_of layout p cells ≡ read_as c lag → read_of layout p cells ≡ answer 0 c lag 0 0 0
   unfolding read_of answer_of
   read_good cells e = rw e
 
-  pub read_refused : {why : Refusal} (cells : List ℕ) → verdict_of layout p cells ≡ Refused why → read_of layout p cells ≡ refusal_of why 0 0
+  pub read_refused : {why : Refusal} (cells : List ℕ) → verdict_of layout p cells ≡ Err why → read_of layout p cells ≡ refusal_of why 0 0
   unfolding read_of answer_of
   read_refused cells e = rw e
 
@@ -158,8 +155,8 @@ module _ (layout : Layout) (p : Places) where
   read_uncounted cells = go (verdict_of layout p cells) refl
     where
       go : (v : Verdict) → verdict_of layout p cells ≡ v → ((read_of layout p cells).code ≡ 0 → ⊥) → (read_of layout p cells).count ≡ 0
-      go (Good c lag) e h = absurd (h (ap (λ (a : Answer). a.code) (read_good cells e)))
-      go (Refused why) e h = rw (read_refused cells e) (refusal_uncounted why 0 0)
+      go (Ok (c, lag)) e h = absurd (h (ap (λ (a : Answer). a.code) (read_good cells e)))
+      go (Err why) e h = rw (read_refused cells e) (refusal_uncounted why 0 0)
 
   pub read_unsized : (cells : List ℕ) → length_good layout (length cells) ≡ false → (read_of layout p cells).code ≡ 1
   unfolding read_of answer_of verdict_of
@@ -175,8 +172,8 @@ module _ (layout : Layout) (p : Places) where
   read_lit cells = go (verdict_of layout p cells) refl
     where
       go : (v : Verdict) → verdict_of layout p cells ≡ v → (read_of layout p cells).code ≡ 11 → ⊥
-      go (Good c lag) e h = let code = ap (λ (a : Answer). a.code) (read_good cells e) in omega arith
-      go (Refused why) e h = refusal_lit why 0 0 (cells_reads layout p cells e) (rw (read_refused cells e) at h)
+      go (Ok (c, lag)) e h = let code = ap (λ (a : Answer). a.code) (read_good cells e) in omega arith
+      go (Err why) e h = refusal_lit why 0 0 (cells_reads layout p cells e) (rw (read_refused cells e) at h)
 
   module _ (s : Chip) where
     pub open_is : open_of layout p s ≡ outcome_of (open_run layout p s)

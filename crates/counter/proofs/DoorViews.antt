@@ -1,5 +1,6 @@
 -- The outcomes of the doors, by what their pieces say of themselves.
 --   outcome_ending            of storing that ends a call
+--   lost_outcome              refusal 11 has no writes and no tries, whatever storing says
 --   cut_ending, cut_steady, cut_refused  the same of a call that may be cut
 --   outcome_refused           of a refusal that touched nothing
 --   chip_verdict_lem, chip_examined  a chip lent with its lives reads as its cells do
@@ -12,28 +13,25 @@
 --   open_on                   the work of open on a chip that reads as a count
 --   step_unpaired, step_refused, step_last, step_on  the work of step, by what the chip reads as
 --   good_settled              a good verdict finds the chip fitted, and its map sound
-use Rattle.std.proofs.Common.{◌≡◌, ℕ, ◌≤◌, Bool, true, false, cond, not, ◌&&◌, length, ℤ, sym, refl, ap, ◌∙◌, true≢false, arith, eq-eqb, ne_eqb}
+use Rattle.std.proofs.Common.{◌≡◌, ℕ, ◌≤◌, Bool, true, false, cond, not, ◌&&◌, length, ℤ, sym, refl, ap, ◌∙◌, true≢false, arith, eq-eqb, ne_eqb, Result, Ok, Err}
 use mathlib.Core.Bool.{and-false}
 use borrow.Author.Tests.{not-true}
-use Rattle.cells.specs.declared.row.Found.{Found}
-use Rattle.cells.specs.declared.row.Found.TheVariants.{At, Nowhere}
+use Rattle.cells.specs.declared.mains.PowerLost.{PowerLost}
 use Rattle.cells.specs.Chip.{Chip}
-use Rattle.cells.specs.Run.{Run, Seen, seen, view, still}
-use Rattle.cells.specs.Cut.{Cut.lost, cut, Says}
+use Rattle.cells.specs.Run.{Run, Seen, view, still}
+use Rattle.cells.specs.Cut.{Cut.lost, cut, sight, Says}
 use Rattle.cells.proofs.Views.{said_answer}
 use Rattle.cells.proofs.Cuts.{starts_same, cut_enough, said_lost, said_view, said_ends}
+use Rattle.std.specs.Result.{result_and}
 use Rattle.counter.specs.declared.places.Places.{Places}
-use Rattle.counter.specs.declared.verdict.Work.{Work}
-use Rattle.counter.specs.declared.verdict.Work.TheVariants.{Done, Stopped}
-use Rattle.counter.specs.declared.verdict.Verdict.{Verdict}
-use Rattle.counter.specs.declared.verdict.Verdict.TheVariants.{Good, Refused}
+use Rattle.counter.specs.declared.store.Stored.{Stored}
 use Rattle.counter.specs.declared.verdict.Refusal.{Refusal}
-use Rattle.counter.specs.declared.verdict.Refusal.TheVariants.{BadLength, BadPlaces, NoMark, UnsoundMap, BadCopy, TwoCodes, LostNibble, Apart, LastCount, NoSpare, MapByte, PowerLost}
+use Rattle.counter.specs.declared.verdict.Refusal.TheVariants.{BadLength, BadPlaces, NoMark, LastCount, PowerLost as LostPower}
 use Rattle.counter.specs.declared.standing.Standing.TheVariants.{Unfit, Unmarked, Marked}
 use Rattle.counter.specs.Layout.{Layout}
 use Rattle.counter.specs.Places.{length_good, places_good, lives_good}
 use Rattle.counter.specs.Map.{map_in, marked, pointer_of, sound}
-use Rattle.counter.specs.Verdict.{outcome, outcome_of, refusal_of, answer_of, ending, on_good, provided, ◌ending_in◌}
+use Rattle.counter.specs.Verdict.{outcome, outcome_of, refusal_of, answer_of, ending, on_good, provided, ◌ending_in◌, Verdict, Work, read_as}
 use Rattle.counter.specs.Reading.{unless, examine, verdict_of}
 use Rattle.counter.specs.Store.{store}
 use Rattle.counter.proofs.SoundPointers.{sound_test}
@@ -44,56 +42,43 @@ use Rattle.counter.proofs.Fitted.{fitted_ready, ready_fitted}
 use Rattle.counter.proofs.GoodVerdicts.{verdict_good}
 use Rattle.counter.specs.Doors.{last_count, chip_verdict, reopening, beginning, open_run, stepping, step_run}
 use Rattle.counter.specs.Trials.{cut_outcome}
-use Rattle.counter.specs.Inside.{fitted, standing_of, loss_of}
+use Rattle.counter.specs.Inside.{fitted, standing_of, told, finish}
 
 -- of storing that ends a call
 pub outcome_ending : (r : Run Work) {v : Seen Work} → v ≡ view r → (x : Verdict)
     → outcome (answer_of (ending x v.answer) v.writes v.tried) v.after ≡ outcome_of (r ending_in x)
 outcome_ending r e x = ap (λ (v : Seen Work). outcome (answer_of (ending x v.answer) v.writes v.tried) v.after) e
 
--- of storing that ends a call which may be cut
-loss_work : (w : Work) {a : ℕ} → loss_of w ≡ At a → w ≡ Stopped (PowerLost a)
-loss_work Done e = absurd (true≢false cc)
-loss_work (Stopped BadLength) e = absurd (true≢false cc)
-loss_work (Stopped BadPlaces) e = absurd (true≢false cc)
-loss_work (Stopped NoMark) e = absurd (true≢false cc)
-loss_work (Stopped UnsoundMap) e = absurd (true≢false cc)
-loss_work (Stopped BadCopy) e = absurd (true≢false cc)
-loss_work (Stopped (TwoCodes n)) e = absurd (true≢false cc)
-loss_work (Stopped (LostNibble n)) e = absurd (true≢false cc)
-loss_work (Stopped (Apart lag)) e = absurd (true≢false cc)
-loss_work (Stopped LastCount) e = absurd (true≢false cc)
-loss_work (Stopped (NoSpare k)) e = absurd (true≢false cc)
-loss_work (Stopped (MapByte a)) e = absurd (true≢false cc)
-loss_work (Stopped (PowerLost b)) e = cc
+-- the first of storing and the rest that is refused
+pub ending_and : (v : Verdict) (w : Work) → result_and w v ≡ ending v w
+ending_and v (Ok tt) = refl
+ending_and v (Err why) = refl
 
-lost_outcome : (x : Verdict) (a w t : ℕ) (u : Chip) → outcome (answer_of (ending x (Stopped (PowerLost a))) w t) u ≡ cut_outcome (lost a u)
+-- of storing that ends a call which may be cut
+pub lost_outcome : (x : Verdict) (a w t : ℕ) (u : Chip) → outcome (answer_of (ending x (Err (LostPower a))) w t) u ≡ cut_outcome (lost a u)
 unfolding answer_of
 lost_outcome x a w t u = refl
 
-pub cut_ending : {n b : ℕ} {r : Run Work} {s : Chip} {v : Seen Work} → Says (loss_of v.answer) v n b r s → (x : Verdict)
-    → outcome (answer_of (ending x v.answer) v.writes v.tried) v.after ≡ cut_outcome (cut n b (r ending_in x) s)
-cut_ending {n} {b} {r} {s} {v} e x = go (loss_of v.answer) refl
-  where
-    go : (l : Found) → loss_of v.answer ≡ l → outcome (answer_of (ending x v.answer) v.writes v.tried) v.after ≡ cut_outcome (cut n b (r ending_in x) s)
-    go (At a) here =
-        let torn = said_lost e {u = seen x 0 0 v.after} {q = r ending_in x} here refl refl (starts_same r.log) in
-        rw (loss_work v.answer here) (lost_outcome x a v.writes v.tried v.after ∙ ap cut_outcome torn.so)
-    go Nowhere on =
-        let same = said_answer r (said_view e on) refl in
-        rw same (ap cut_outcome (said_ends e {x = ending x v.answer} on).so)
+pub cut_ending : {n b : ℕ} {r : Run Work} {s t : Chip} (x : Result Stored PowerLost) → Says (sight told x t) n b r s → (v : Verdict)
+    → outcome (finish v x) t ≡ cut_outcome (cut n b (r ending_in v) s)
+cut_ending {r = r} (Ok done) e v =
+    let same = said_answer r (said_view e) refl in
+    rw same (ap cut_outcome (said_ends e {x = ending v done.work}).so)
+cut_ending {n = n} {b = b} {r = r} {s = s} {t = t} (Err loss) e v =
+    let torn : Says (lost loss.at t) n b (r ending_in v) s = said_lost e (starts_same r.log) in
+    ap cut_outcome torn.so
 
 -- of a call with power for every write
 pub cut_steady : (n b : ℕ) (r : Run Verdict) (s : Chip) → length r.log ≤ n → cut_outcome (cut n b r s) ≡ outcome_of r
 cut_steady n b r s few = ap cut_outcome (cut_enough n b r s few)
 
 -- of a refusal that touched nothing, cut or not
-pub cut_refused : (n b : ℕ) {r : Run Verdict} {s : Chip} {why : Refusal} → r ≡ still (Refused why) s → outcome (refusal_of why 0 0) s ≡ cut_outcome (cut n b r s)
+pub cut_refused : (n b : ℕ) {r : Run Verdict} {s : Chip} {why : Refusal} → r ≡ still (Err why) s → outcome (refusal_of why 0 0) s ≡ cut_outcome (cut n b r s)
 unfolding answer_of
-cut_refused n b {r} {s} {why} e = sym (ap (λ (q : Run Verdict). cut_outcome (cut n b q s)) e ∙ cut_steady n b (still (Refused why) s) s (omega arith))
+cut_refused n b {r} {s} {why} e = sym (ap (λ (q : Run Verdict). cut_outcome (cut n b q s)) e ∙ cut_steady n b (still (Err why) s) s (omega arith))
 
 -- of a refusal that touched nothing
-pub outcome_refused : {r : Run Verdict} {s : Chip} {why : Refusal} → r ≡ still (Refused why) s → outcome (refusal_of why 0 0) s ≡ outcome_of r
+pub outcome_refused : {r : Run Verdict} {s : Chip} {why : Refusal} → r ≡ still (Err why) s → outcome (refusal_of why 0 0) s ≡ outcome_of r
 unfolding answer_of
 outcome_refused e = ap outcome_of (sym e)
 
@@ -103,7 +88,7 @@ unopened layout p s = fitted layout p s && not (marked (map_in layout p s.cells)
 
 -- what was read stored anew
 abbrev pub settling : Layout → Places → Verdict → Chip → Run Verdict
-settling layout p v s = on_good v (λ c lag. store layout p c s ending_in Good c lag) s
+settling layout p v s = on_good v (λ c lag. store layout p c s ending_in read_as c lag) s
 
 -- opening again is settling what the chip reads as, since the tests before the mark are the same
 same_tests :
@@ -141,10 +126,10 @@ module _ (layout : Layout) (p : Places) (s : Chip) where
   open_again e =
       same_tests (lives_good s) (length_good layout (length s.cells)) (places_good layout (length s.cells) p) (marked (map_in layout p s.cells)) _ _ _ s e
 
-  pub settling_refused : (v : Verdict) (why : Refusal) → v ≡ Refused why → settling layout p v s ≡ still (Refused why) s
+  pub settling_refused : (v : Verdict) (why : Refusal) → v ≡ Err why → settling layout p v s ≡ still (Err why) s
   settling_refused v why e = rw e
 
-  pub settling_good : (v : Verdict) (c : ℕ) (lag : ℤ) → v ≡ Good c lag → settling layout p v s ≡ store layout p c s ending_in Good c lag
+  pub settling_good : (v : Verdict) (c : ℕ) (lag : ℤ) → v ≡ read_as c lag → settling layout p v s ≡ store layout p c s ending_in read_as c lag
   settling_good v c lag e = rw e
 
   module _ (paired : length s.lives ≡ length s.cells) where
@@ -174,7 +159,7 @@ module _ (layout : Layout) (p : Places) (s : Chip) where
     unfolding open_run
     open_marked e = let facts = stands_marked layout p s.cells e in rw (lives, facts.0, facts.1, facts.2)
 
-    pub open_unfit : {why : Refusal} → standing_of layout p s.cells ≡ Unfit why → open_run layout p s ≡ still (Refused why) s
+    pub open_unfit : {why : Refusal} → standing_of layout p s.cells ≡ Unfit why → open_run layout p s ≡ still (Err why) s
     unfolding unopened fitted verdict_of
     open_unfit e =
         open_again (rw (lives, stands_unfit layout p s.cells e))
@@ -185,34 +170,34 @@ module _ (layout : Layout) (p : Places) (s : Chip) where
     unfolding lives_good
     lifeless = ne_eqb _ _ unpaired
 
-    chip_unpaired : chip_verdict layout p s ≡ Refused BadLength
+    chip_unpaired : chip_verdict layout p s ≡ Err BadLength
     unfolding chip_verdict
     chip_unpaired = rw lifeless
 
-    pub open_unpaired : open_run layout p s ≡ still (Refused BadLength) s
+    pub open_unpaired : open_run layout p s ≡ still (Err BadLength) s
     unfolding open_run
     open_unpaired = rw lifeless
 
-    pub step_unpaired : step_run layout p s ≡ still (Refused BadLength) s
+    pub step_unpaired : step_run layout p s ≡ still (Err BadLength) s
     unfolding step_run
     step_unpaired = rw chip_unpaired
 
-  module _ (why : Refusal) (e : chip_verdict layout p s ≡ Refused why) where
-    pub step_refused : step_run layout p s ≡ still (Refused why) s
+  module _ (why : Refusal) (e : chip_verdict layout p s ≡ Err why) where
+    pub step_refused : step_run layout p s ≡ still (Err why) s
     unfolding step_run
     step_refused = rw e
 
-  pub good_settled : {c : ℕ} {lag : ℤ} → chip_verdict layout p s ≡ Good c lag → (fitted layout p s ≡ true) × (sound layout p (pointer_of (map_in layout p s.cells)) ≡ true)
+  pub good_settled : {c : ℕ} {lag : ℤ} → chip_verdict layout p s ≡ read_as c lag → (fitted layout p s ≡ true) × (sound layout p (pointer_of (map_in layout p s.cells)) ≡ true)
   good_settled e = let good = (verdict_good layout p s e).1 in (ready_fitted good.ready, sound_test layout p _ good.sound)
 
-  module _ (c : ℕ) (lag : ℤ) (e : chip_verdict layout p s ≡ Good c lag) where
-    pub open_on : open_run layout p s ≡ store layout p c s ending_in Good c lag
+  module _ (c : ℕ) (lag : ℤ) (e : chip_verdict layout p s ≡ read_as c lag) where
+    pub open_on : open_run layout p s ≡ store layout p c s ending_in read_as c lag
     unfolding unopened
     open_on =
         let ready : fitted layout p s ≡ true = ready_fitted (verdict_good layout p s e).1.ready in
         open_again (rw (ready, (verdict_good layout p s e).1.marks)) ∙ settling_good _ c lag e
 
-    pub step_last : c ≡ last_count → step_run layout p s ≡ still (Refused LastCount) s
+    pub step_last : c ≡ last_count → step_run layout p s ≡ still (Err LastCount) s
     unfolding step_run
     step_last h = rw (e, eq-eqb _ _ h)
 

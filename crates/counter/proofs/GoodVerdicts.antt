@@ -1,22 +1,20 @@
 -- What a good verdict says: no refusal's test failed, and the count is one of 32 bits.
+--   same_count                verdicts that are the same have the same count
 --   unless_good, found_good   a test passed on the way to a count
 --   CellsGood, cells_good     what a good verdict of an image says
 --   VerdictGood, verdict_good  and of a chip
 --   below_last                a count of 32 bits that is not the last
 --   of_storing, cells_reads, verdict_reads  what storing alone is refused for, reading is not
-use Rattle.std.proofs.Common.{◌≡◌, ℕ, ◌-◌, ◌^◌, ◌<◌, Bool, true, false, cond, List, length, ℤ, pos, ◌-ℤ◌, refl, true≢false, arith, eqb-true}
+use Rattle.counter.specs.Verdict.{Verdict, read_as}
+use Rattle.std.proofs.Common.{◌≡◌, ℕ, ◌-◌, ◌^◌, ◌<◌, Bool, true, false, cond, List, length, ℤ, pos, ◌-ℤ◌, refl, ap, true≢false, arith, eqb-true, Option, Some, None, Ok, Err}
 use Rattle.code.specs.declared.reading.Reading.{Reading}
 use Rattle.code.specs.Readings.{reading_of}
 use Rattle.code.proofs.GrayLaws.{count_small}
 use Rattle.code.proofs.NibbleLaws.{word_small}
-use Rattle.cells.specs.declared.row.Found.{Found}
-use Rattle.cells.specs.declared.row.Found.TheVariants.{At, Nowhere}
 use Rattle.cells.specs.Chip.{Chip}
 use Rattle.counter.specs.declared.places.Places.{Places}
 use Rattle.counter.specs.declared.verdict.Refusal.{Refusal}
 use Rattle.counter.specs.declared.verdict.Refusal.TheVariants.{BadLength, BadPlaces, NoMark, UnsoundMap, TwoCodes, BadCopy, LostNibble, Apart, LastCount, NoSpare, MapByte, PowerLost}
-use Rattle.counter.specs.declared.verdict.Verdict.{Verdict}
-use Rattle.counter.specs.declared.verdict.Verdict.TheVariants.{Good, Refused}
 use Rattle.code.specs.Tabulate.{tabulate}
 use Rattle.counter.specs.Layout.{Layout, slots}
 use Rattle.counter.specs.Slots.{lowest}
@@ -27,24 +25,32 @@ use Rattle.counter.specs.Doors.{last_count, chip_verdict}
 use Rattle.counter.proofs.SoundPointers.{Sound, test_sound}
 use Rattle.counter.proofs.Ready.{pointers, Ready}
 
+-- verdicts that are the same have the same count
+pub same_count : {c d : ℕ} {l m : ℤ} → read_as d l ≡ read_as c m → d ≡ c
+same_count {c} e = ap count e
+  where
+    count : Verdict → ℕ
+    count (Ok (d, lag)) = d
+    count (Err why) = c
+
 module _ {c : ℕ} {lag : ℤ} where
   -- what is refused is not good
-  pub not_good : {A : Type 0} {why : Refusal} → Refused why ≡ Good c lag → A
+  pub not_good : {A : Type 0} {why : Refusal} → Err why ≡ read_as c lag → A
   not_good e = absurd (true≢false cc)
 
-  pub unless_good : (test : Bool) (why : Refusal) (rest : Verdict) → unless test why rest ≡ Good c lag → (test ≡ true) × (rest ≡ Good c lag)
+  pub unless_good : (test : Bool) (why : Refusal) (rest : Verdict) → unless test why rest ≡ read_as c lag → (test ≡ true) × (rest ≡ read_as c lag)
   unless_good true why rest e = (refl, e)
   unless_good false why rest e = not_good e
 
-  pub found_good : (f : Found) (why : ℕ → Refusal) (rest : Verdict) → on_found f why rest ≡ Good c lag → rest ≡ Good c lag
-  found_good (At n) why rest e = not_good e
-  found_good Nowhere why rest e = e
+  pub found_good : (f : Option ℕ) (why : ℕ → Refusal) (rest : Verdict) → on_found f why rest ≡ read_as c lag → rest ≡ read_as c lag
+  found_good (Some n) why rest e = not_good e
+  found_good None why rest e = e
 
-  decided : (t : Bool) (d : ℕ) (l : ℤ) → cond t (Good d l) (Refused (Apart l)) ≡ Good c lag → d ≡ c
-  decided true d l e = cc
+  decided : (t : Bool) (d : ℕ) (l : ℤ) → cond t (read_as d l) (Err (Apart l)) ≡ read_as c lag → d ≡ c
+  decided true d l e = same_count e
   decided false d l e = not_good e
 
-  decide_good : (d e : ℕ) → decide d e ≡ Good c lag → d ≡ c
+  decide_good : (d e : ℕ) → decide d e ≡ read_as c lag → d ≡ c
   unfolding decide
   decide_good d e h = decided (close (pos d -ℤ pos e)) d (pos d -ℤ pos e) h
 
@@ -53,7 +59,7 @@ count_small_read : (layout : Layout) (reading : ℕ → Reading) (copy : ℕ) �
 unfolding count_in
 count_small_read layout reading copy = count_small _ (word_small (tabulate (nibble_in layout reading copy) 0 8))
 
-weigh_good : {c : ℕ} {lag : ℤ} (layout : Layout) (byte : ℕ → ℕ) → weigh layout byte ≡ Good c lag → c < 2 ^ 32
+weigh_good : {c : ℕ} {lag : ℤ} (layout : Layout) (byte : ℕ → ℕ) → weigh layout byte ≡ read_as c lag → c < 2 ^ 32
 unfolding weigh
 weigh_good layout byte e =
     let reading : ℕ → Reading = λ k. reading_of (byte k) in
@@ -68,7 +74,7 @@ pub record CellsGood (layout : Layout) (p : Places) (cells : List ℕ) : Type 0 
   pub marks : marked (map_in layout p cells) ≡ true
   pub sound : Sound (slots layout) p (pointer_of (map_in layout p cells))
 
-pub cells_good : {c : ℕ} {lag : ℤ} (layout : Layout) (p : Places) (cells : List ℕ) → verdict_of layout p cells ≡ Good c lag → CellsGood layout p cells × (c < 2 ^ 32)
+pub cells_good : {c : ℕ} {lag : ℤ} (layout : Layout) (p : Places) (cells : List ℕ) → verdict_of layout p cells ≡ read_as c lag → CellsGood layout p cells × (c < 2 ^ 32)
 unfolding verdict_of examine
 cells_good layout p cells e =
     let map = map_in layout p cells in
@@ -87,8 +93,8 @@ pub record VerdictGood (layout : Layout) (p : Places) (c : ℕ) (s : Chip) : Typ
   pub small : c < 2 ^ 32
 
 pub verdict_good :
-    {c : ℕ} {lag : ℤ} (layout : Layout) (p : Places) (s : Chip) → chip_verdict layout p s ≡ Good c lag
-    → (verdict_of layout p s.cells ≡ Good c lag) × VerdictGood layout p c s
+    {c : ℕ} {lag : ℤ} (layout : Layout) (p : Places) (s : Chip) → chip_verdict layout p s ≡ read_as c lag
+    → (verdict_of layout p s.cells ≡ read_as c lag) × VerdictGood layout p c s
 unfolding chip_verdict lives_good
 verdict_good layout p s e =
     let (paired, reads) = unless_good (lives_good s) BadLength _ e in
@@ -120,23 +126,23 @@ of_storing (MapByte address) = true
 of_storing (PowerLost address) = true
 
 module _ {why : Refusal} where
-  unless_reads : (test : Bool) (first : Refusal) (rest : Verdict) → of_storing first ≡ false → (rest ≡ Refused why → of_storing why ≡ false) → unless test first rest ≡ Refused why → of_storing why ≡ false
+  unless_reads : (test : Bool) (first : Refusal) (rest : Verdict) → of_storing first ≡ false → (rest ≡ Err why → of_storing why ≡ false) → unless test first rest ≡ Err why → of_storing why ≡ false
   unless_reads true first rest d f e = f e
   unless_reads false first rest d f e = let same : first ≡ why = cc in rw (← same) d
 
-  found_reads : (found : Found) (first : ℕ → Refusal) (rest : Verdict) → ((n : ℕ) → of_storing (first n) ≡ false) → (rest ≡ Refused why → of_storing why ≡ false) → on_found found first rest ≡ Refused why → of_storing why ≡ false
-  found_reads (At n) first rest d f e = let same : first n ≡ why = cc in rw (← same) (d n)
-  found_reads Nowhere first rest d f e = f e
+  found_reads : (found : Option ℕ) (first : ℕ → Refusal) (rest : Verdict) → ((n : ℕ) → of_storing (first n) ≡ false) → (rest ≡ Err why → of_storing why ≡ false) → on_found found first rest ≡ Err why → of_storing why ≡ false
+  found_reads (Some n) first rest d f e = let same : first n ≡ why = cc in rw (← same) (d n)
+  found_reads None first rest d f e = f e
 
-  decided_reads : (t : Bool) (c : ℕ) (lag : ℤ) → cond t (Good c lag) (Refused (Apart lag)) ≡ Refused why → of_storing why ≡ false
+  decided_reads : (t : Bool) (c : ℕ) (lag : ℤ) → cond t (read_as c lag) (Err (Apart lag)) ≡ Err why → of_storing why ≡ false
   decided_reads true c lag e = absurd (true≢false cc)
   decided_reads false c lag e = let same : Apart lag ≡ why = cc in rw (← same) refl
 
-  decide_reads : (c d : ℕ) → decide c d ≡ Refused why → of_storing why ≡ false
+  decide_reads : (c d : ℕ) → decide c d ≡ Err why → of_storing why ≡ false
   unfolding decide
   decide_reads c d e = decided_reads (close (pos c -ℤ pos d)) c (pos c -ℤ pos d) e
 
-  weigh_reads : (layout : Layout) (byte : ℕ → ℕ) → weigh layout byte ≡ Refused why → of_storing why ≡ false
+  weigh_reads : (layout : Layout) (byte : ℕ → ℕ) → weigh layout byte ≡ Err why → of_storing why ≡ false
   unfolding weigh
   weigh_reads layout byte =
       let reading : ℕ → Reading = λ k. reading_of (byte k) in
@@ -144,7 +150,7 @@ module _ {why : Refusal} where
       (found_reads (lowest 8 0 (lost_at layout reading)) LostNibble _ (λ n. refl)
       (decide_reads (count_in layout reading 0) (count_in layout reading (layout.copies - 1))))
 
-  pub cells_reads : (layout : Layout) (p : Places) (cells : List ℕ) → verdict_of layout p cells ≡ Refused why → of_storing why ≡ false
+  pub cells_reads : (layout : Layout) (p : Places) (cells : List ℕ) → verdict_of layout p cells ≡ Err why → of_storing why ≡ false
   unfolding verdict_of examine
   cells_reads layout p cells =
       unless_reads (length_good layout (length cells)) BadLength _ refl
@@ -153,7 +159,7 @@ module _ {why : Refusal} where
       (unless_reads (sound layout p (pointer_of (map_in layout p cells))) UnsoundMap _ refl
       (weigh_reads layout (data_at cells (map_in layout p cells))))))
 
-  pub verdict_reads : (layout : Layout) (p : Places) (s : Chip) → chip_verdict layout p s ≡ Refused why → of_storing why ≡ false
+  pub verdict_reads : (layout : Layout) (p : Places) (s : Chip) → chip_verdict layout p s ≡ Err why → of_storing why ≡ false
   unfolding chip_verdict
   verdict_reads layout p s = unless_reads (lives_good s) BadLength _ refl (cells_reads layout p s.cells)
 

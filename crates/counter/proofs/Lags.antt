@@ -2,17 +2,18 @@
 --   lag_exact                 the difference of the counts as the code has them
 --   lag_fits                  fits 64 bits
 --   lag_bits                  and so can be kept as bits and read back
+--   wide_exact, wide_bits     the same where the counts were made signed numbers first
 --   decide_level, decide_ahead  lag 0 and lag 1 answer
 --   decide_apart              any other is refused
 --   lag_level, lag_ahead      counts of lag 0 are equal, and of lag 1 one apart
 --   decide_same, decide_next, decide_other  what counts decide that are equal, one apart, or neither
-use Rattle.std.proofs.Common.{◌≡◌, ℕ, zero, suc, ◌+◌, ◌-◌, ◌^◌, ◌<◌, ◌≤◌, false, ℤ, pos, negsuc, ◌-ℤ◌, sym, refl, ◌∙◌, ap₂, true≢false, add-zero, arith, to_z-of_z, w64, SFits, to_z, of_z, le-ltb, lt-ltb}
+use Rattle.counter.specs.Verdict.{read_as}
+use Rattle.std.proofs.Common.{◌≡◌, ℕ, zero, suc, ◌+◌, ◌-◌, ◌^◌, ◌<◌, ◌≤◌, false, ℤ, pos, negsuc, ◌-ℤ◌, sym, refl, ap, ◌∙◌, ap₂, true≢false, add-zero, arith, to_z-of_z, w64, SFits, to_z, of_z, le-ltb, lt-ltb, Err}
 use native.Mathlib.Decide.{dec_le}
 use native.Mathlib.Nat.{sub-zero}
 use borrow.Author.Tests.{lt-leb}
 use lib.IntN.{+ℤ_invr}
 use mir.Facts.{to_z_pos}
-use Rattle.counter.specs.declared.verdict.Verdict.TheVariants.{Good, Refused}
 use Rattle.counter.specs.declared.verdict.Refusal.TheVariants.{Apart}
 use Rattle.counter.specs.Reading.{close, decide}
 
@@ -39,6 +40,16 @@ module _ (a b : ℕ) (small : a < 2 ^ 32) (small' : b < 2 ^ 32) where
   pub lag_bits : to_z w64 (of_z w64 (to_z w64 a -ℤ to_z w64 b)) ≡ pos a -ℤ pos b
   lag_bits = to_z-of_z lag_fits ∙ lag_exact
 
+  -- a count as a signed number
+  wide : (n : ℕ) → n < 2 ^ 32 → SFits w64 (pos n)
+  wide n l = record { sfits = omega arith }
+
+  pub wide_exact : to_z w64 (of_z w64 (pos a)) -ℤ to_z w64 (of_z w64 (pos b)) ≡ pos a -ℤ pos b
+  wide_exact = ap₂ ◌-ℤ◌ (to_z-of_z (wide a small)) (to_z-of_z (wide b small'))
+
+  pub wide_bits : to_z w64 (of_z w64 (to_z w64 (of_z w64 (pos a)) -ℤ to_z w64 (of_z w64 (pos b)))) ≡ pos a -ℤ pos b
+  wide_bits = ap (λ (z : ℤ). to_z w64 (of_z w64 z)) wide_exact ∙ to_z-of_z (fits (dec_le b a))
+
 close_not : (z : ℤ) → (z ≡ pos 0 → ⊥) → (z ≡ pos 1 → ⊥) → close z ≡ false
 unfolding close
 close_not (pos n) none one = lt-leb n 1 (go n none one)
@@ -49,15 +60,15 @@ close_not (pos n) none one = lt-leb n 1 (go n none one)
     go (suc (suc n)) none one = omega arith
 close_not (negsuc n) none one = refl
 
-pub decide_level : (a b : ℕ) → pos a -ℤ pos b ≡ pos 0 → decide a b ≡ Good a (pos a -ℤ pos b)
+pub decide_level : (a b : ℕ) → pos a -ℤ pos b ≡ pos 0 → decide a b ≡ read_as a (pos a -ℤ pos b)
 unfolding decide close
 decide_level a b e = rw e
 
-pub decide_ahead : (a b : ℕ) → pos a -ℤ pos b ≡ pos 1 → decide a b ≡ Good a (pos a -ℤ pos b)
+pub decide_ahead : (a b : ℕ) → pos a -ℤ pos b ≡ pos 1 → decide a b ≡ read_as a (pos a -ℤ pos b)
 unfolding decide close
 decide_ahead a b e = rw e
 
-pub decide_apart : (a b : ℕ) → (pos a -ℤ pos b ≡ pos 0 → ⊥) → (pos a -ℤ pos b ≡ pos 1 → ⊥) → decide a b ≡ Refused (Apart (pos a -ℤ pos b))
+pub decide_apart : (a b : ℕ) → (pos a -ℤ pos b ≡ pos 0 → ⊥) → (pos a -ℤ pos b ≡ pos 1 → ⊥) → decide a b ≡ Err (Apart (pos a -ℤ pos b))
 unfolding decide
 decide_apart a b none one = rw (close_not (pos a -ℤ pos b) none one)
 
@@ -75,14 +86,14 @@ lag_level a b e = let q = lag_small a b 0 e in omega arith
 pub lag_ahead : (a b : ℕ) → pos a -ℤ pos b ≡ pos 1 → a ≡ b + 1
 lag_ahead a b e = lag_small a b 1 e
 
-pub decide_same : (c : ℕ) → decide c c ≡ Good c (pos 0)
+pub decide_same : (c : ℕ) → decide c c ≡ read_as c (pos 0)
 decide_same c = rw (sym (+ℤ_invr (pos c))) (decide_level c c (+ℤ_invr (pos c)))
 
-pub decide_next : (c : ℕ) → decide (c + 1) c ≡ Good (c + 1) (pos 1)
+pub decide_next : (c : ℕ) → decide (c + 1) c ≡ read_as (c + 1) (pos 1)
 decide_next c = rw (sym one) (decide_ahead (c + 1) c one)
   where
     one : pos (c + 1) -ℤ pos c ≡ pos 1
     one = let e : c + 1 - c ≡ 1 = omega arith in ahead (c + 1) c (omega arith) ∙ rw e
 
-pub decide_other : (a b : ℕ) → (a ≡ b → ⊥) → (a ≡ b + 1 → ⊥) → decide a b ≡ Refused (Apart (pos a -ℤ pos b))
+pub decide_other : (a b : ℕ) → (a ≡ b → ⊥) → (a ≡ b + 1 → ⊥) → decide a b ≡ Err (Apart (pos a -ℤ pos b))
 decide_other a b level ahead = decide_apart a b (λ e. level (lag_level a b e)) (λ e. ahead (lag_ahead a b e))

@@ -11,10 +11,9 @@
 --   slot_there                a slot that holds its byte is left alone
 --   slot_alive                a slot whose cell has life is written there
 --   slot_refused              a slot whose cell refuses the byte is moved
-use Rattle.std.proofs.Common.{◌≡◌, ℕ, ◌+◌, ◌<◌, ◌≤◌, Bool, true, false, cond, eqb, ◌⊎◌, List, [], ◌∷◌, ◌++◌, length, sym, refl, ap, ◌∙◌, inl, inr, true≢false, append-nil, arith, ne_eqb}
+use Rattle.counter.specs.Verdict.{Work, complete}
+use Rattle.std.proofs.Common.{◌≡◌, ℕ, ◌+◌, ◌<◌, ◌≤◌, Bool, true, false, cond, eqb, ◌⊎◌, List, [], ◌∷◌, ◌++◌, length, sym, refl, ap, ◌∙◌, inl, inr, true≢false, append-nil, arith, ne_eqb, Option, Some, None, Err}
 use native.Mathlib.Decide.{ℕ_discrete}
-use Rattle.cells.specs.declared.row.Found.{Found}
-use Rattle.cells.specs.declared.row.Found.TheVariants.{At, Nowhere}
 use Rattle.cells.specs.Chip.{Chip, cell_at, life_at, Paired}
 use Rattle.cells.specs.Run.{Run, Write, write, run, still, ◌then◌, ◌giving◌}
 use Rattle.cells.specs.Log.{asked_in, Within}
@@ -23,8 +22,6 @@ use Rattle.cells.proofs.Logs.{every_wider, asked_here, asked_append, asked_all, 
 use Rattle.cells.proofs.Puts.{PutLaws, put_there, put_cost, put_laws}
 use Rattle.counter.specs.declared.places.Places.{Places}
 use Rattle.counter.specs.declared.spares.Gap.{Gap}
-use Rattle.counter.specs.declared.verdict.Work.{Work}
-use Rattle.counter.specs.declared.verdict.Work.TheVariants.{Done, Stopped}
 use Rattle.counter.specs.declared.verdict.Refusal.{Refusal}
 use Rattle.counter.specs.declared.verdict.Refusal.TheVariants.{NoSpare, MapByte}
 use Rattle.counter.specs.Layout.{Layout, slots}
@@ -45,12 +42,12 @@ abbrev pub room_of : Layout → Places → Chip → ℕ
 room_of layout p s = room (gap_at layout p s)
 
 pub data Ended (w : Work) : Type 0 where
-  done : w ≡ Done → Ended w
-  roomless : (k : ℕ) → w ≡ Stopped (NoSpare k) → Ended w
-  unmapped : (a : ℕ) → w ≡ Stopped (MapByte a) → Ended w
+  done : w ≡ complete → Ended w
+  roomless : (k : ℕ) → w ≡ Err (NoSpare k) → Ended w
+  unmapped : (a : ℕ) → w ≡ Err (MapByte a) → Ended w
 
 -- what stopped is not done
-pub not_done : {A : Type 0} {why : Refusal} → Stopped why ≡ Done → A
+pub not_done : {A : Type 0} {why : Refusal} → Err why ≡ complete → A
 not_done e = absurd (true≢false cc)
 
 -- slot k holds b, the others what they held, in a sound map; and what was asked of area cells has been paid for
@@ -66,20 +63,20 @@ pub record SlotLaws (layout : Layout) (p : Places) (k b cost : ℕ) (s : Chip) (
   pub others : (j : ℕ) → j < slots layout → (j ≡ k → ⊥) → pointers layout p r.after j ≡ pointers layout p s j
   pub unmoved : r.tried ≡ 0 → map_in layout p r.after.cells ≡ map_in layout p s.cells
   pub bounded : asked_in p.start p.end r.log ≤ cost + room_of layout p s
-  pub settles : r.answer ≡ Done → Settles layout p k b cost s r
+  pub settles : r.answer ≡ complete → Settles layout p k b cost s r
   pub ended : Ended r.answer
 
 -- ## A move
 
 module _ (layout : Layout) (p : Places) (k b : ℕ) (s : Chip) where
-  abbrev pub tries : Run Found
+  abbrev pub tries : Run (Option ℕ)
   tries = try_spares k (gap_at layout p s) b s
 
-  pub move_missing : tries.answer ≡ Nowhere → move_slot layout p k b s ≡ tries then still (Stopped (NoSpare k)) tries.after
+  pub move_missing : tries.answer ≡ None → move_slot layout p k b s ≡ tries then still (Err (NoSpare k)) tries.after
   unfolding move_slot move_to
   move_missing e = rw e
 
-  pub move_landing : (a : ℕ) → tries.answer ≡ At a → move_slot layout p k b s ≡ tries then put_pointer layout p k a tries.after
+  pub move_landing : (a : ℕ) → tries.answer ≡ Some a → move_slot layout p k b s ≡ tries then put_pointer layout p k a tries.after
   unfolding move_slot move_to
   move_landing a e = rw e
 
@@ -96,7 +93,7 @@ module _ {layout : Layout} {p : Places} {s : Chip} (ready : Ready layout p s) (s
 
   missing_laws :
       Missing k (gap_at layout p s) b s
-      → SlotLaws layout p k b 0 s (tries layout p k b s then still (Stopped (NoSpare k)) (tries layout p k b s).after)
+      → SlotLaws layout p k b 0 s (tries layout p k b s then still (Err (NoSpare k)) (tries layout p k b s).after)
   missing_laws m =
       record {
         within = within_then (within_wider (λ c i. inr i) tries_within) (within_still _ _);
@@ -136,13 +133,13 @@ module _ {layout : Layout} {p : Places} {s : Chip} (ready : Ready layout p s) (s
     landing_asked : asked_in p.start p.end ((tries layout p k b s).log ++ puts.log) ≡ length (tries layout p k b s).log
     landing_asked = let e = asked_append p.start p.end (tries layout p k b s).log puts.log in let h = tries_asked in let h' = puts_asked in omega arith
 
-    narrowed : puts.answer ≡ Done → room_of layout p puts.after ≡ room (narrow (kind_of k) m.place (gap_at layout p s))
+    narrowed : puts.answer ≡ complete → room_of layout p puts.after ≡ room (narrow (kind_of k) m.place (gap_at layout p s))
     narrowed e =
         let moved = between_moved (pointers layout p puts.after) (between_map layout p (pointers layout p s)) l m.free (pointing.held e) landing_others in
         let same = between_unique (between_map layout p (pointers layout p puts.after)) moved in
         omega arith
 
-    landing_settles : puts.answer ≡ Done → Settles layout p k b 0 s (tries layout p k b s then puts)
+    landing_settles : puts.answer ≡ complete → Settles layout p k b 0 s (tries layout p k b s then puts)
     landing_settles e =
         record {
           sound = sound_joined (pointers layout p puts.after) sound (spare m.free) (pointing.held e) (λ j h d. (h, sym (landing_others j h d)));
@@ -163,7 +160,7 @@ module _ {layout : Layout} {p : Places} {s : Chip} (ready : Ready layout p s) (s
           ended = ends pointing.either;
         }
       where
-        ends : (puts.answer ≡ Done) ⊎ ((x : ℕ) × (puts.answer ≡ Stopped (MapByte x))) → Ended puts.answer
+        ends : (puts.answer ≡ complete) ⊎ ((x : ℕ) × (puts.answer ≡ Err (MapByte x))) → Ended puts.answer
         ends (inl e) = done e
         ends (inr (x, e)) = unmapped x e
 
@@ -184,7 +181,7 @@ module _ (layout : Layout) (p : Places) (k b : ℕ) (s : Chip) where
   abbrev pub first : Run Bool
   first = put_at (pointers layout p s k) b s
 
-  pub slot_held : first.answer ≡ true → store_slot layout p k b s ≡ first giving Done
+  pub slot_held : first.answer ≡ true → store_slot layout p k b s ≡ first giving complete
   unfolding store_slot
   slot_held e = rw e
 
@@ -193,11 +190,11 @@ module _ (layout : Layout) (p : Places) (k b : ℕ) (s : Chip) where
   slot_failed e = rw e
 
   -- a slot that holds its byte is left alone
-  pub slot_there : data_of layout p s k ≡ b → store_slot layout p k b s ≡ still Done s
-  slot_there e = let h = put_there (pointers layout p s k) b s e in slot_held (ap (λ (r : Run Bool). r.answer) h) ∙ ap (λ (r : Run Bool). r giving Done) h
+  pub slot_there : data_of layout p s k ≡ b → store_slot layout p k b s ≡ still complete s
+  slot_there e = let h = put_there (pointers layout p s k) b s e in slot_held (ap (λ (r : Run Bool). r.answer) h) ∙ ap (λ (r : Run Bool). r giving complete) h
 
   -- a slot whose cell has life is written there
-  pub slot_alive : Paired s → 1 ≤ life_at s (pointers layout p s k) → store_slot layout p k b s ≡ first giving Done
+  pub slot_alive : Paired s → 1 ≤ life_at s (pointers layout p s k) → store_slot layout p k b s ≡ first giving complete
   slot_alive paired h = slot_held ((put_laws (pointers layout p s k) b s paired).alive h)
 
   -- a slot whose cell refuses the byte is moved
@@ -230,7 +227,7 @@ module _ {layout : Layout} {p : Places} {s : Chip} (ready : Ready layout p s) (s
       let h' = first_asked layout p k b s in
       omega arith
 
-  held_settles : (first layout p k b s).answer ≡ true → Settles layout p k b (change (data_of layout p s k) b) s (first layout p k b s giving Done)
+  held_settles : (first layout p k b s).answer ≡ true → Settles layout p k b (change (data_of layout p s k) b) s (first layout p k b s giving complete)
   held_settles e =
       record {
         sound = rw put_map sound;
@@ -239,10 +236,10 @@ module _ {layout : Layout} {p : Places} {s : Chip} (ready : Ready layout p s) (s
         paid = let h = put_asked in rw put_map (omega arith);
       }
 
-  held_laws : (first layout p k b s).answer ≡ true → SlotLaws layout p k b (change (data_of layout p s k) b) s (first layout p k b s giving Done)
+  held_laws : (first layout p k b s).answer ≡ true → SlotLaws layout p k b (change (data_of layout p s k) b) s (first layout p k b s giving complete)
   held_laws e =
       record {
-        within = within_giving Done (within_wider (λ c i. inr i) put_inside);
+        within = within_giving complete (within_wider (λ c i. inr i) put_inside);
         mark = ap marked put_map;
         others = λ j h d. ap (λ (map : List ℕ). pointer_of map j) put_map;
         unmoved = λ q. put_map;

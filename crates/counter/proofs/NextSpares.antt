@@ -1,13 +1,12 @@
 -- The next spare of a kind, tried alone, and what is left when it is taken or passed over.
 --   next_free, next_room      it may be taken, and leaves less room
---   Next, low_next, high_next it is the lowest Low pointer's neighbour, or the next High address
+--   next_low, next_high, low_next, high_next  it is the lowest Low pointer's neighbour, or the next High address
 --   met_none, far_none        where there is none
 --   narrow_behind             an address taken behind another
 --   spares_fit                the spares of a gap are a row of cells of the image
 --   spares_none, spares_held, spares_passed  spares tried: none, the next one holds, or the next one fails
 --   spares_alive              the next one has life: it is put there, and no other is tried
-use Rattle.std.proofs.Common.{◌≡◌, ℕ, suc, ◌+◌, ◌-◌, ◌%◌, ◌<◌, ◌≤◌, min, max, Bool, true, false, ap, ◌∙◌, true≢false, arith}
-use Rattle.cells.specs.declared.row.Found.TheVariants.{At, Nowhere}
+use Rattle.std.proofs.Common.{◌≡◌, ℕ, suc, ◌+◌, ◌-◌, ◌%◌, ◌<◌, ◌≤◌, min, max, Bool, true, false, refl, ap, ◌∙◌, true≢false, arith, Some, None}
 use Rattle.cells.specs.Chip.{Chip, life_at, Paired}
 use Rattle.cells.specs.Run.{Run, run, still, ◌then◌, ◌giving◌}
 use Rattle.cells.specs.Put.{put_at}
@@ -23,6 +22,7 @@ use Rattle.counter.specs.Store.{try_spares}
 use Rattle.counter.proofs.Offsets.{kind_low, kind_high}
 use Rattle.counter.proofs.Gaps.{Free}
 use Rattle.counter.proofs.Tries.{room}
+use Rattle.counter.specs.Inside.{Next}
 use Rattle.counter.proofs.StoreViews.{GapFits}
 
 -- ## Where it lies
@@ -37,35 +37,34 @@ unfolding spares_of next_of narrow
 next_room High g some = omega arith
 next_room Low g some = omega arith
 
--- an address is the next for a slot, and this is left without it
-pub record Next (k : ℕ) (g : Gap) (a : ℕ) (left : Gap) : Type 0 where
-  pub some : 0 < spares_of (kind_of k) g
-  pub here : a ≡ next_of (kind_of k) g
-  pub leaves : left ≡ narrow (kind_of k) a g
-
-module _ (k : ℕ) (g : Gap) where
-  pub low_next : k % 8 < 3 → g.high < g.low → Next k g (g.low - 1) (gap g.high (g.low - 1))
+module _ (g : Gap) where
+  pub next_low : g.high < g.low → Next Low g (g.low - 1) (gap g.high (g.low - 1))
   unfolding spares_of next_of narrow
-  low_next h l =
+  next_low l =
       let least : min g.low (g.low - 1) ≡ g.low - 1 = omega arith in
-      record { some = rw (kind_low k h) (omega arith); here = rw (kind_low k h); leaves = rw (kind_low k h, least) }
+      record { some = omega arith; here = refl; leaves = rw least }
 
-  pub high_next : 3 ≤ k % 8 → g.high < g.low → g.high < 256 → Next k g g.high (gap (g.high + 1) g.low)
+  pub next_high : g.high < g.low → g.high < 256 → Next High g g.high (gap (g.high + 1) g.low)
   unfolding spares_of next_of narrow
-  high_next h l m =
+  next_high l m =
       let most : max g.high (g.high + 1) ≡ g.high + 1 = omega arith in
-      record { some = rw (kind_high k h) (omega arith); here = rw (kind_high k h); leaves = rw (kind_high k h, most) }
+      record { some = omega arith; here = refl; leaves = rw most }
 
-  pub met_none : g.high ≡ g.low → spares_of (kind_of k) g ≡ 0
-  met_none e = go (kind_of k)
-    where
-      go : (kind : Kind) → spares_of kind g ≡ 0
-      go High = unfold spares_of in omega arith
-      go Low = unfold spares_of in omega arith
-
-  pub far_none : 3 ≤ k % 8 → g.high ≡ 256 → spares_of (kind_of k) g ≡ 0
+  pub met_none : (kind : Kind) → g.high ≡ g.low → spares_of kind g ≡ 0
   unfolding spares_of
-  far_none h e = rw (kind_high k h) (omega arith)
+  met_none High e = omega arith
+  met_none Low e = omega arith
+
+  pub far_none : g.high ≡ 256 → spares_of High g ≡ 0
+  unfolding spares_of
+  far_none e = omega arith
+
+  -- the same of a slot's kind
+  pub low_next : (k : ℕ) → k % 8 < 3 → g.high < g.low → Next (kind_of k) g (g.low - 1) (gap g.high (g.low - 1))
+  low_next k h l = rw (kind_low k h) (next_low l)
+
+  pub high_next : (k : ℕ) → 3 ≤ k % 8 → g.high < g.low → g.high < 256 → Next (kind_of k) g g.high (gap (g.high + 1) g.low)
+  high_next k h l m = rw (kind_high k h) (next_high l m)
 
 -- one spare less is left
 spares_fewer : (kind : Kind) (g : Gap) → 0 < spares_of kind g → spares_of kind g ≡ suc (spares_of kind (narrow kind (next_of kind g) g))
@@ -93,7 +92,7 @@ spares_fit Low fits = (omega arith, λ some. omega arith)
 -- ## Spares tried
 
 module _ (k : ℕ) (g : Gap) (b : ℕ) (s : Chip) where
-  pub spares_none : spares_of (kind_of k) g ≡ 0 → try_spares k g b s ≡ still Nowhere s
+  pub spares_none : spares_of (kind_of k) g ≡ 0 → try_spares k g b s ≡ still None s
   unfolding try_spares
   spares_none none = rw (none, walk_none)
 
@@ -104,7 +103,7 @@ module _ (k : ℕ) (g : Gap) (b : ℕ) (s : Chip) where
     abbrev left : Gap
     left = narrow (kind_of k) at g
 
-    pub spares_held : (put_at at b s).answer ≡ true → try_spares k g b s ≡ try_at at b s giving At at
+    pub spares_held : (put_at at b s).answer ≡ true → try_spares k g b s ≡ try_at at b s giving Some at
     unfolding try_spares
     spares_held h = rw (spares_fewer (kind_of k) g some) (walk_hit _ _ at b s h)
 
@@ -112,8 +111,8 @@ module _ (k : ℕ) (g : Gap) (b : ℕ) (s : Chip) where
     unfolding try_spares
     spares_passed h = rw (spares_fewer (kind_of k) g some, ← next_on (kind_of k) g some) (walk_miss _ _ at b s h)
 
-    pub spares_alive : Paired s → 1 ≤ life_at s at → try_spares k g b s ≡ run (At at) (put_at at b s).log 1 (put_at at b s).after
+    pub spares_alive : Paired s → 1 ≤ life_at s at → try_spares k g b s ≡ run (Some at) (put_at at b s).log 1 (put_at at b s).after
     unfolding try_spares
     spares_alive paired life =
         (walk_laws (spares_of (kind_of k) g) (way_of (kind_of k)) at b s paired).first (omega arith) life
-        ∙ ap (λ (r : Run Bool). r giving At at) (try_put at b s)
+        ∙ ap (λ (r : Run Bool). r giving Some at) (try_put at b s)

@@ -5,7 +5,7 @@
 --   store_held                storing a count that all slots hold asks nothing and changes nothing
 --   held_next                 behind which comes the next count alone
 --   next_stored, next_is      storing the next count is storing the changed nibble's slot in each copy
-use Rattle.std.proofs.Common.{◌≡◌, ℕ, zero, suc, ◌+◌, ◌-◌, ◌/◌, ◌%◌, ◌^◌, ◌<◌, ◌≤◌, true, sym, refl, ap, ◌∙◌, append-nil, add-zero, zero-add, arith}
+use Rattle.std.proofs.Common.{◌≡◌, ℕ, zero, suc, ◌+◌, ◌-◌, ◌/◌, ◌%◌, ◌^◌, ◌<◌, ◌≤◌, true, sym, refl, ap, ◌∙◌, append-nil, add-zero, zero-add, arith, Ok, Err}
 use Rattle.code.specs.Codes.{code_of}
 use Rattle.code.specs.Gray.{gray_of, changed_bit}
 use Rattle.code.specs.Nibbles.{nibble_of}
@@ -16,11 +16,9 @@ use Rattle.cells.specs.Chip.{Chip}
 use Rattle.cells.specs.Run.{Run, still}
 use Rattle.cells.proofs.Logs.{within_kept}
 use Rattle.counter.specs.declared.places.Places.{Places}
-use Rattle.counter.specs.declared.verdict.Work.{Work}
-use Rattle.counter.specs.declared.verdict.Work.TheVariants.{Done, Stopped}
 use Rattle.counter.specs.Layout.{Layout, two, slots}
 use Rattle.counter.specs.Map.{sound}
-use Rattle.counter.specs.Verdict.{◌and_then◌}
+use Rattle.counter.specs.Verdict.{◌and_then◌, Work, complete}
 use Rattle.counter.specs.Store.{slot_code, store_slot, store_from, store}
 use Rattle.counter.specs.Doors.{last_count}
 use Rattle.counter.specs.Inside.{fitted, Holds}
@@ -47,23 +45,23 @@ step_stays c small k other = ap code_of (sym (step_nibble_others c (k % 8) small
 -- ## One piece of storing and then another
 
 -- what comes next counts only where the first is done
-then_same : (r : Run Work) (one other : Chip → Run Work) → (r.answer ≡ Done → one r.after ≡ other r.after) → r and_then one ≡ r and_then other
+then_same : (r : Run Work) (one other : Chip → Run Work) → (r.answer ≡ complete → one r.after ≡ other r.after) → r and_then one ≡ r and_then other
 then_same r one other same = go r.answer refl
   where
     go : (w : Work) → r.answer ≡ w → r and_then one ≡ r and_then other
-    go Done e = done_then r one e ∙ rw (same e) (sym (done_then r other e))
-    go (Stopped why) e = stopped_then r one why e ∙ sym (stopped_then r other why e)
+    go (Ok tt) e = done_then r one e ∙ rw (same e) (sym (done_then r other e))
+    go (Err why) e = stopped_then r one why e ∙ sym (stopped_then r other why e)
 
 -- nothing comes next
-then_still : (r : Run Work) → r and_then still Done ≡ r
+then_still : (r : Run Work) → r and_then still complete ≡ r
 then_still r = go r.answer refl
   where
-    go : (w : Work) → r.answer ≡ w → r and_then still Done ≡ r
-    go Done e = done_then r (still Done) e ∙ rw (append-nil, add-zero, ← e)
-    go (Stopped why) e = stopped_then r (still Done) why e
+    go : (w : Work) → r.answer ≡ w → r and_then still complete ≡ r
+    go (Ok tt) e = done_then r (still complete) e ∙ rw (append-nil, add-zero, ← e)
+    go (Err why) e = stopped_then r (still complete) why e
 
 -- nothing came before
-still_then : (s : Chip) (work : Chip → Run Work) → still Done s and_then work ≡ work s
+still_then : (s : Chip) (work : Chip → Run Work) → still complete s and_then work ≡ work s
 still_then s work = rw zero-add
 
 -- ## Slots that hold their codes
@@ -80,7 +78,7 @@ module _ (layout : Layout) (p : Places) (d : ℕ) where
       rw (e, f, slot_there layout p k (slot_code d k) s (held k (omega arith) (omega arith)))
       (still_then s (store_from (m + n) (k + 1) layout p d) ∙ held_passed m n (k + 1) s (λ j l u. held j (omega arith) (omega arith)))
 
-  pub store_held : (s : Chip) → Holds layout p d s.cells → store layout p d s ≡ still Done s
+  pub store_held : (s : Chip) → Holds layout p d s.cells → store layout p d s ≡ still complete s
   unfolding store store_from
   store_held s held =
       ap (λ (n : ℕ). store_from n 0 layout p d s) (sym (add-zero (slots layout)))
@@ -102,7 +100,7 @@ module _ (p : Places) (c : ℕ) (s : Chip) (small : c + 1 < 2 ^ 32) (ready : Rea
   low = step_nibble_small c small
 
   -- the slots behind the second one that changes
-  last : (t : Chip) → ((j : ℕ) → 8 + nibble < j → j < 16 → data_of two p t j ≡ slot_code (c + 1) j) → store_from (7 - nibble) (8 + nibble + 1) two p (c + 1) t ≡ still Done t
+  last : (t : Chip) → ((j : ℕ) → 8 + nibble < j → j < 16 → data_of two p t j ≡ slot_code (c + 1) j) → store_from (7 - nibble) (8 + nibble + 1) two p (c + 1) t ≡ still complete t
   unfolding store_from
   last t there =
       let h = low in
@@ -125,10 +123,10 @@ module _ (p : Places) (c : ℕ) (s : Chip) (small : c + 1 < 2 ^ 32) (ready : Rea
       ap (λ (n : ℕ). store_from n (nibble + 1) two p (c + 1) t) e
       ∙ held_passed two p (c + 1) 7 (suc (7 - nibble)) (nibble + 1) t (λ j l u. stays t kept j (omega arith) (λ q. omega arith))
       ∙ ap (λ (k : ℕ). store_from (suc (7 - nibble)) k two p (c + 1) t) f
-      ∙ then_same (next (8 + nibble) t) (store_from (7 - nibble) (8 + nibble + 1) two p (c + 1)) (still Done) (λ d. last _ (λ j l u. after d j l u))
+      ∙ then_same (next (8 + nibble) t) (store_from (7 - nibble) (8 + nibble + 1) two p (c + 1)) (still complete) (λ d. last _ (λ j l u. after d j l u))
       ∙ then_still (next (8 + nibble) t)
     where
-      after : (next (8 + nibble) t).answer ≡ Done → (j : ℕ) → 8 + nibble < j → j < 16 → data_of two p (next (8 + nibble) t).after j ≡ slot_code (c + 1) j
+      after : (next (8 + nibble) t).answer ≡ complete → (j : ℕ) → 8 + nibble < j → j < 16 → data_of two p (next (8 + nibble) t).after j ≡ slot_code (c + 1) j
       after d j l u =
           let h = low in
           ((slot_laws fit well (8 + nibble) (omega arith) (slot_code (c + 1) (8 + nibble))).settles d).kept j u (λ q. omega arith)
@@ -147,7 +145,7 @@ module _ (p : Places) (c : ℕ) (s : Chip) (small : c + 1 < 2 ^ 32) (ready : Rea
       slot : SlotLaws two p nibble (slot_code (c + 1) nibble) (change (data_of two p s nibble) (slot_code (c + 1) nibble)) s (next nibble s)
       slot = let h = low in slot_laws ready sound nibble (omega arith) (slot_code (c + 1) nibble)
 
-      rest : (next nibble s).answer ≡ Done → store_from (15 - nibble) (nibble + 1) two p (c + 1) (next nibble s).after ≡ next (8 + nibble) (next nibble s).after
+      rest : (next nibble s).answer ≡ complete → store_from (15 - nibble) (nibble + 1) two p (c + 1) (next nibble s).after ≡ next (8 + nibble) (next nibble s).after
       rest d = behind _ (ready_kept ready (within_kept slot.within)) (slot.settles d).sound (slot.settles d).kept
 
 -- ## Over the tests and the numbers that code has at hand

@@ -1,5 +1,6 @@
 -- Where pointers lie in the map: each ends before the next begins, and the last inside the map.
 --   kind_low, kind_high       which slots are Low and which High
+--   low_slot, high_slot       and back
 --   bytes_of, bytes_some, bytes_length  the bytes of a pointer of a kind
 --   offset_first              a pointer lies behind the mark
 --   offset_next               a slot's pointer ends where the next slot's begins
@@ -25,6 +26,20 @@ kind_low k h = rw (lt-ltb (k % 8) 3 h)
 pub kind_high : (k : ℕ) → 3 ≤ k % 8 → kind_of k ≡ High
 unfolding kind_of
 kind_high k h = rw (le-ltb (k % 8) 3 h)
+
+pub low_slot : (k : ℕ) → kind_of k ≡ Low → k % 8 < 3
+low_slot k e = go (dec_lt (k % 8) 3)
+  where
+    go : Dec (k % 8 < 3) → k % 8 < 3
+    go (yes h) = h
+    go (no h) = let other = kind_high k (omega arith) in cc
+
+pub high_slot : (k : ℕ) → kind_of k ≡ High → 3 ≤ k % 8
+high_slot k e = go (dec_lt (k % 8) 3)
+  where
+    go : Dec (k % 8 < 3) → 3 ≤ k % 8
+    go (yes h) = let other = kind_low k h in cc
+    go (no h) = omega arith
 
 -- the bytes of a pointer of a kind
 unfoldable pub bytes_of : Kind → ℕ

@@ -1,7 +1,7 @@
 -- A first opening asks few writes: fewer than a call has power for that is not cut.
 --   take_few                  taking addresses asks at most one write for each cell of the gap
 --   opening_few               all of it
-use Rattle.std.proofs.Common.{◌≡◌, ℕ, zero, suc, ◌+◌, ◌*◌, ◌≤◌, List, [], ◌∷◌, length, refl, arith, length-append}
+use Rattle.std.proofs.Common.{◌≡◌, ℕ, zero, suc, ◌+◌, ◌*◌, ◌≤◌, List, [], ◌∷◌, length, refl, arith, length-append, Ok, Err}
 use Rattle.code.specs.Codes.{code_of}
 use Rattle.cells.specs.Chip.{Chip, Paired}
 use Rattle.cells.specs.Run.{Run}
@@ -9,13 +9,11 @@ use Rattle.cells.proofs.Writes.{kept_paired}
 use Rattle.cells.proofs.Rows.{row_cost}
 use Rattle.counter.specs.declared.places.Places.{Places}
 use Rattle.counter.specs.declared.spares.Gap.{Gap}
-use Rattle.counter.specs.declared.verdict.Work.{Work}
-use Rattle.counter.specs.declared.verdict.Work.TheVariants.{Done, Stopped}
 use Rattle.counter.specs.Layout.{Layout, slots}
 use Rattle.counter.specs.Slots.{kind_of}
 use Rattle.counter.specs.Map.{mark_bytes}
 use Rattle.counter.specs.Spares.{whole_area, narrow}
-use Rattle.counter.specs.Verdict.{◌and_then◌}
+use Rattle.counter.specs.Verdict.{◌and_then◌, Work}
 use Rattle.counter.specs.Store.{try_spares, put_pointer}
 use Rattle.counter.specs.Opening.{take_from, put_pointers, put_mark, first_opening}
 use Rattle.counter.proofs.Ready.{Ready, ready_placed}
@@ -42,8 +40,8 @@ then_few : {m n : ℕ} (r : Run Work) (work : Chip → Run Work) → length r.lo
 then_few {m} {n} r work one rest = go r.answer refl
   where
     go : (w : Work) → r.answer ≡ w → length (r and_then work).log ≤ m + n
-    go Done h = rw (done_then r work h, length-append) (omega arith)
-    go (Stopped why) h = rw (stopped_then r work why h) (omega arith)
+    go (Ok tt) h = rw (done_then r work h, length-append) (omega arith)
+    go (Err why) h = rw (stopped_then r work why h) (omega arith)
 
 pointers_few : (layout : Layout) (addresses : List ℕ) (k : ℕ) (p : Places) (s : Chip) → length (put_pointers addresses k layout p s).log ≤ 2 * length addresses
 unfolding put_pointers
@@ -68,10 +66,10 @@ opening_few {layout} {p} {s} ready = go (take_from (slots layout) 0 (whole_area 
         omega arith
 
     go : (w : Work) → (take_from (slots layout) 0 (whole_area p) s).answer.work ≡ w → length (first_opening layout p s).log ≤ 4096 + (2 * slots layout + 2)
-    go Done h =
+    go (Ok tt) h =
         let addresses = (take_from (slots layout) 0 (whole_area p) s).answer.addresses in
         let many : length addresses ≡ slots layout = ((take_laws (slots layout) 0 (whole_area p) s ready.paired).all h).many in
         let t = (take_from (slots layout) 0 (whole_area p) s).after in
         let map = then_few (put_pointers addresses 0 layout p t) (put_mark layout p) (pointers_few layout addresses 0 p t) (mark_few layout p (put_pointers addresses 0 layout p t).after) in
         rw (opening_on layout p s h, length-append) (omega (arith, few, map, many))
-    go (Stopped why) h = rw (opening_ends layout p s h) (omega (arith, few))
+    go (Err why) h = rw (opening_ends layout p s h) (omega (arith, few))

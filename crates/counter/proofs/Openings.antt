@@ -8,10 +8,9 @@
 --   OpeningLaws, opening_laws the laws of a first opening
 --   whole_inside              the whole area is the area
 --   zero_code                 the code of 0 is what every slot holds at count 0
-use Rattle.std.proofs.Common.{◌≡◌, ℕ, zero, suc, ◌+◌, ◌%◌, ◌<◌, ◌≤◌, true, ◌⊎◌, List, [], ◌∷◌, length, get_or, sym, refl, ap, ◌∙◌, inl, inr, add-zero, zero-add, arith}
+use Rattle.std.proofs.Common.{◌≡◌, ℕ, zero, suc, ◌+◌, ◌%◌, ◌<◌, ◌≤◌, true, ◌⊎◌, List, [], ◌∷◌, length, get_or, sym, refl, ap, ◌∙◌, inl, inr, add-zero, zero-add, arith, None, Err}
 use Rattle.code.specs.Codes.{code_of}
 use Rattle.code.specs.Nibbles.{nibble_of}
-use Rattle.cells.specs.declared.row.Found.TheVariants.{Nowhere}
 use Rattle.cells.specs.declared.row.Way.TheVariants.{Up}
 use Rattle.cells.specs.Chip.{Chip, cell_at, Kept}
 use Rattle.cells.specs.Run.{Run, ◌then◌, ◌giving◌}
@@ -20,12 +19,10 @@ use Rattle.cells.specs.Row.{put_row, InRow}
 use Rattle.cells.proofs.Logs.{within_still, within_wider, within_giving, within_then, within_kept}
 use Rattle.cells.proofs.Rows.{RowLaws, row_laws}
 use Rattle.counter.specs.declared.places.Places.{Places}
-use Rattle.counter.specs.declared.verdict.Work.{Work}
-use Rattle.counter.specs.declared.verdict.Work.TheVariants.{Done, Stopped}
 use Rattle.counter.specs.declared.verdict.Refusal.TheVariants.{NoSpare, MapByte}
 use Rattle.counter.specs.Map.{map_in, byte_at, marked, mark_bytes}
 use Rattle.counter.specs.Spares.{whole_area}
-use Rattle.counter.specs.Verdict.{◌and_then◌}
+use Rattle.counter.specs.Verdict.{◌and_then◌, Work, complete}
 use Rattle.counter.specs.Store.{slot_code, put_pointer, mapped}
 use Rattle.counter.specs.Opening.{Taken, take_from, put_pointers, put_mark, untried, first_opening}
 use Rattle.code.proofs.GrayLaws.{gray_zero}
@@ -46,14 +43,14 @@ use Rattle.counter.proofs.WorkSteps.{opening_on, opening_ends}
 
 -- done, or stopped at a map byte
 pub data MapEnded (w : Work) : Type 0 where
-  put : w ≡ Done → MapEnded w
-  failed : (a : ℕ) → w ≡ Stopped (MapByte a) → MapEnded w
+  put : w ≡ complete → MapEnded w
+  failed : (a : ℕ) → w ≡ Err (MapByte a) → MapEnded w
 
 pub record PointsLaws (layout : Layout) (p : Places) (addresses : List ℕ) (k : ℕ) (s : Chip) (r : Run Work) : Type 0 where
   pub within : Within (InMap layout p) s r
   pub tried : r.tried ≡ 0
   pub earlier : (j : ℕ) → j < k → pointers layout p r.after j ≡ pointers layout p s j
-  pub pointed : r.answer ≡ Done → (j : ℕ) → j < length addresses → pointers layout p r.after (k + j) ≡ get_or addresses j 0
+  pub pointed : r.answer ≡ complete → (j : ℕ) → j < length addresses → pointers layout p r.after (k + j) ≡ get_or addresses j 0
   pub ended : MapEnded r.answer
 
 module _ (layout : Layout) (p : Places) where
@@ -62,7 +59,7 @@ module _ (layout : Layout) (p : Places) where
       (a : ℕ) (rest : List ℕ) (k : ℕ) (s : Chip) (q : Run Work)
       → Ready layout p s
       → k + suc (length rest) ≤ slots layout
-      → (put_pointer layout p k a s).answer ≡ Done
+      → (put_pointer layout p k a s).answer ≡ complete
       → PointsLaws layout p rest (k + 1) (put_pointer layout p k a s).after q
       → PointsLaws layout p (a ∷ rest) k s (put_pointer layout p k a s then q)
   points_then a rest k s q ready fits e points =
@@ -77,7 +74,7 @@ module _ (layout : Layout) (p : Places) where
       laws : PointerLaws layout p k a s
       laws = pointer_laws ready k (omega arith) a
 
-      here : q.answer ≡ Done → (j : ℕ) → j < suc (length rest) → pointers layout p q.after (k + j) ≡ get_or (a ∷ rest) j 0
+      here : q.answer ≡ complete → (j : ℕ) → j < suc (length rest) → pointers layout p q.after (k + j) ≡ get_or (a ∷ rest) j 0
       here d zero l = rw add-zero (points.earlier k (omega arith) ∙ laws.held e)
       here d (suc j) l = let h : k + suc j ≡ k + 1 + j = omega arith in rw h (points.pointed d j (omega arith))
 
@@ -86,7 +83,7 @@ module _ (layout : Layout) (p : Places) where
       (a : ℕ) (rest : List ℕ) (k : ℕ) (s : Chip) (x : ℕ)
       → Ready layout p s
       → k + suc (length rest) ≤ slots layout
-      → (put_pointer layout p k a s).answer ≡ Stopped (MapByte x)
+      → (put_pointer layout p k a s).answer ≡ Err (MapByte x)
       → PointsLaws layout p (a ∷ rest) k s (put_pointer layout p k a s)
   points_stop a rest k s x ready fits e =
       let laws = pointer_laws ready k (omega arith) a in
@@ -102,14 +99,14 @@ module _ (layout : Layout) (p : Places) where
       (addresses : List ℕ) (k : ℕ) (s : Chip) → Ready layout p s → k + length addresses ≤ slots layout
       → PointsLaws layout p addresses k s (put_pointers addresses k layout p s)
   unfolding put_pointers
-  points_laws [] k s ready fits = record { within = within_still Done s; tried = refl; earlier = λ j l. refl; pointed = λ d j l. absurd (omega arith); ended = put refl }
+  points_laws [] k s ready fits = record { within = within_still complete s; tried = refl; earlier = λ j l. refl; pointed = λ d j l. absurd (omega arith); ended = put refl }
   points_laws (a ∷ rest) k s ready fits = go laws.either (points_laws rest (k + 1) (put_pointer layout p k a s).after (ready_kept ready (within_kept laws.within)) (omega arith))
     where
       laws : PointerLaws layout p k a s
       laws = pointer_laws ready k (omega arith) a
 
       go :
-          ((put_pointer layout p k a s).answer ≡ Done) ⊎ ((x : ℕ) × ((put_pointer layout p k a s).answer ≡ Stopped (MapByte x)))
+          ((put_pointer layout p k a s).answer ≡ complete) ⊎ ((x : ℕ) × ((put_pointer layout p k a s).answer ≡ Err (MapByte x)))
           → PointsLaws layout p rest (k + 1) (put_pointer layout p k a s).after (put_pointers rest (k + 1) layout p (put_pointer layout p k a s).after)
           → PointsLaws layout p (a ∷ rest) k s (put_pointer layout p k a s and_then put_pointers rest (k + 1) layout p)
       go (inl e) points = rw (done_then (put_pointer layout p k a s) _ e) (points_then a rest k s _ ready fits e points)
@@ -124,7 +121,7 @@ pub record MarkLaws (layout : Layout) (p : Places) (s : Chip) : Type 0 where
   pub within : Within (InMap layout p) s (put_mark layout p s)
   pub tried : (put_mark layout p s).tried ≡ 0
   pub pointed : (j : ℕ) → j < slots layout → pointers layout p (put_mark layout p s).after j ≡ pointers layout p s j
-  pub marks : (put_mark layout p s).answer ≡ Done → marked (map_in layout p (put_mark layout p s).after.cells) ≡ true
+  pub marks : (put_mark layout p s).answer ≡ complete → marked (map_in layout p (put_mark layout p s).after.cells) ≡ true
   pub ended : MapEnded (put_mark layout p s).answer
 
 module _ {layout : Layout} {p : Places} {s : Chip} (ready : Ready layout p s) where
@@ -138,7 +135,7 @@ module _ {layout : Layout} {p : Places} {s : Chip} (ready : Ready layout p s) wh
   row = row_laws mark_bytes p.map s ready.paired
 
   mark_byte :
-      (put_row mark_bytes p.map s).answer ≡ Nowhere → (j : ℕ) → j < 2
+      (put_row mark_bytes p.map s).answer ≡ None → (j : ℕ) → j < 2
       → byte_at (map_in layout p (put_row mark_bytes p.map s).after.cells) j ≡ get_or mark_bytes j 0
   mark_byte e j l = map_byte layout p _ j (omega arith) ∙ row.held e j l
 
@@ -154,7 +151,7 @@ module _ {layout : Layout} {p : Places} {s : Chip} (ready : Ready layout p s) wh
       }
     where
       ends :
-          (mapped (put_row mark_bytes p.map s).answer ≡ Done) ⊎ ((x : ℕ) × (mapped (put_row mark_bytes p.map s).answer ≡ Stopped (MapByte x)))
+          (mapped (put_row mark_bytes p.map s).answer ≡ complete) ⊎ ((x : ℕ) × (mapped (put_row mark_bytes p.map s).answer ≡ Err (MapByte x)))
           → MapEnded (mapped (put_row mark_bytes p.map s).answer)
       ends (inl e) = put e
       ends (inr (x, e)) = failed x e
@@ -164,8 +161,8 @@ module _ {layout : Layout} {p : Places} {s : Chip} (ready : Ready layout p s) wh
 pub record MapLaws (layout : Layout) (p : Places) (addresses : List ℕ) (s : Chip) (r : Run Work) : Type 0 where
   pub within : Within (InMap layout p) s r
   pub tried : r.tried ≡ 0
-  pub pointed : r.answer ≡ Done → (j : ℕ) → j < slots layout → pointers layout p r.after j ≡ get_or addresses j 0
-  pub marks : r.answer ≡ Done → marked (map_in layout p r.after.cells) ≡ true
+  pub pointed : r.answer ≡ complete → (j : ℕ) → j < slots layout → pointers layout p r.after j ≡ get_or addresses j 0
+  pub marks : r.answer ≡ complete → marked (map_in layout p r.after.cells) ≡ true
   pub ended : MapEnded r.answer
 
 module _ {layout : Layout} {p : Places} {s : Chip} (ready : Ready layout p s) (addresses : List ℕ) (many : length addresses ≡ slots layout) where
@@ -175,7 +172,7 @@ module _ {layout : Layout} {p : Places} {s : Chip} (ready : Ready layout p s) (a
   points : PointsLaws layout p addresses 0 s pointing
   points = points_laws layout p addresses 0 s ready (omega arith)
 
-  maps_done : pointing.answer ≡ Done → MapLaws layout p addresses s (pointing then put_mark layout p pointing.after)
+  maps_done : pointing.answer ≡ complete → MapLaws layout p addresses s (pointing then put_mark layout p pointing.after)
   maps_done e =
       record {
         within = within_then points.within laws.within;
@@ -188,7 +185,7 @@ module _ {layout : Layout} {p : Places} {s : Chip} (ready : Ready layout p s) (a
       laws : MarkLaws layout p pointing.after
       laws = mark_laws (ready_kept ready (within_kept points.within))
 
-  maps_stop : (x : ℕ) → pointing.answer ≡ Stopped (MapByte x) → MapLaws layout p addresses s pointing
+  maps_stop : (x : ℕ) → pointing.answer ≡ Err (MapByte x) → MapLaws layout p addresses s pointing
   maps_stop x e =
       record {
         within = points.within;
@@ -216,7 +213,7 @@ pub record Opened (layout : Layout) (p : Places) (s : Chip) : Type 0 where
 pub record OpeningLaws (layout : Layout) (p : Places) (s : Chip) (r : Run Work) : Type 0 where
   pub within : Within (Own layout p) s r
   pub tried : r.tried ≡ 0
-  pub opened : r.answer ≡ Done → Opened layout p r.after
+  pub opened : r.answer ≡ complete → Opened layout p r.after
   pub ended : Ended r.answer
 
 pub whole_inside : (p : Places) (c : ℕ) → InGap (whole_area p) c → Inside p c
@@ -244,7 +241,7 @@ module _ {layout : Layout} {p : Places} {s : Chip} (ready : Ready layout p s) wh
     area_kept : (c : ℕ) → Inside p c → cell_at (mapping taking.after).after c ≡ cell_at taking.after c
     area_kept c i = (within_kept maps.within).cell c (λ o. apart_map ready o i)
 
-    opening_opened : (mapping taking.after).answer ≡ Done → Opened layout p (mapping taking.after).after
+    opening_opened : (mapping taking.after).answer ≡ complete → Opened layout p (mapping taking.after).after
     opening_opened e =
         record {
           sound = rw zero-add at (t.sound p (pointers layout p (mapping taking.after).after) (λ j l. rw zero-add (maps.pointed e j l)) (between_none p _) (sound_none p _));
@@ -265,13 +262,13 @@ module _ {layout : Layout} {p : Places} {s : Chip} (ready : Ready layout p s) wh
         ends (put e) = done e
         ends (failed x e) = unmapped x e
 
-  opening_stop : (k : ℕ) → taking.answer.work ≡ Stopped (NoSpare k) → OpeningLaws layout p s (taking giving taking.answer.work)
+  opening_stop : (k : ℕ) → taking.answer.work ≡ Err (NoSpare k) → OpeningLaws layout p s (taking giving taking.answer.work)
   opening_stop k e = record { within = taking_within; tried = refl; opened = λ d. not_done (sym e ∙ d); ended = roomless k e }
 
   pub opening_laws : OpeningLaws layout p s (first_opening layout p s)
   opening_laws = go takes.either
     where
-      go : (taking.answer.work ≡ Done) ⊎ ((j : ℕ) × (taking.answer.work ≡ Stopped (NoSpare j))) → OpeningLaws layout p s (first_opening layout p s)
+      go : (taking.answer.work ≡ complete) ⊎ ((j : ℕ) × (taking.answer.work ≡ Err (NoSpare j))) → OpeningLaws layout p s (first_opening layout p s)
       go (inl e) = rw (opening_on layout p s e) (opening_done (takes.all e))
       go (inr (k, e)) = rw (opening_ends layout p s e) (opening_stop k e)
 

@@ -2,16 +2,14 @@
 --   part_good, part_refused   its numbers
 --   Parted, parted            what a good one says of the copy's number and of where its part ends
 --   part_inside               the part lies in the image
-use Rattle.std.proofs.Common.{◌≡◌, ℕ, ◌+◌, ◌-◌, ◌≤◌, ◌&&◌, leb, List, length, ℤ, refl, arith, leb-true}
+use Rattle.std.proofs.Common.{◌≡◌, ℕ, ◌+◌, ◌-◌, ◌≤◌, ◌&&◌, leb, List, length, ℤ, refl, arith, leb-true, Ok, Err}
 use Rattle.counter.specs.declared.places.Places.{Places}
 use Rattle.counter.specs.declared.verdict.Refusal.{Refusal}
 use Rattle.counter.specs.declared.verdict.Refusal.TheVariants.{BadLength, BadPlaces, NoMark, UnsoundMap, BadCopy}
-use Rattle.counter.specs.declared.verdict.Verdict.{Verdict}
-use Rattle.counter.specs.declared.verdict.Verdict.TheVariants.{Good, Refused}
 use Rattle.counter.specs.Layout.{two}
 use Rattle.counter.specs.Places.{length_good, places_good}
 use Rattle.counter.specs.Map.{map_in, marked, pointer_of, sound, part_at}
-use Rattle.counter.specs.Verdict.{refusal_of}
+use Rattle.counter.specs.Verdict.{refusal_of, Verdict, read_as}
 use Rattle.counter.specs.Doors.{part, part_verdict, map_part_of}
 use Rattle.counter.proofs.RangeTests.{both_hold}
 use Rattle.counter.proofs.Settings.{good_placed}
@@ -24,7 +22,7 @@ module _ (p : Places) (cells : List ℕ) (copy : ℕ) where
     pub last : copy ≤ 2
     pub inside : p.map + part_at two (copy - 1) + 11 ≤ length cells
 
-  pub parted : {count : ℕ} {lag : ℤ} → part_verdict two p cells copy ≡ Good count lag → Parted
+  pub parted : {count : ℕ} {lag : ℤ} → part_verdict two p cells copy ≡ read_as count lag → Parted
   unfolding part_verdict
   parted e =
       let long = unless_good (length_good two (length cells)) BadLength _ e in
@@ -37,11 +35,11 @@ module _ (p : Places) (cells : List ℕ) (copy : ℕ) where
       let placed = good_placed two (length cells) p good.0 in
       record { first = from; last = to; inside = omega arith }
 
-  pub part_good : {count : ℕ} {lag : ℤ} → part_verdict two p cells copy ≡ Good count lag → map_part_of two p cells copy ≡ part 0 (p.map + part_at two (copy - 1)) 11
+  pub part_good : {count : ℕ} {lag : ℤ} → part_verdict two p cells copy ≡ read_as count lag → map_part_of two p cells copy ≡ part 0 (p.map + part_at two (copy - 1)) 11
   unfolding map_part_of
   part_good e = rw e
 
-  pub part_refused : {why : Refusal} → part_verdict two p cells copy ≡ Refused why → map_part_of two p cells copy ≡ part (refusal_of why 0 0).code 0 0
+  pub part_refused : {why : Refusal} → part_verdict two p cells copy ≡ Err why → map_part_of two p cells copy ≡ part (refusal_of why 0 0).code 0 0
   unfolding map_part_of
   part_refused e = rw e
 
@@ -50,5 +48,5 @@ module _ (p : Places) (cells : List ℕ) (copy : ℕ) where
   part_inside = go (part_verdict two p cells copy) refl
     where
       go : (v : Verdict) → part_verdict two p cells copy ≡ v → (map_part_of two p cells copy).start + (map_part_of two p cells copy).size ≤ length cells
-      go (Good count lag) e = rw (part_good e) (parted e).inside
-      go (Refused why) e = rw (part_refused e) (omega arith)
+      go (Ok (count, lag)) e = rw (part_good e) (parted e).inside
+      go (Err why) e = rw (part_refused e) (omega arith)

@@ -2,9 +2,7 @@
 --   pointers_row, mark_row    addresses put as pointers are a row put, and so is the mark
 --   row_length                the row of pointers ends where the next slot's pointer begins
 --   row_more, laid_low, laid_high  a row laid slot by slot in an array of bytes
-use Rattle.std.proofs.Common.{◌≡◌, ℕ, suc, ◌+◌, ◌/◌, ◌%◌, ◌<◌, ◌≤◌, List, [], ◌∷◌, ◌++◌, length, take, set, refl, append_assoc, append-nil, add-zero, add-one, arith, length-append, length-set, take-suc-set}
-use Rattle.cells.specs.declared.row.Found.{Found}
-use Rattle.cells.specs.declared.row.Found.TheVariants.{At, Nowhere}
+use Rattle.std.proofs.Common.{◌≡◌, ℕ, suc, ◌+◌, ◌/◌, ◌%◌, ◌<◌, ◌≤◌, List, [], ◌∷◌, ◌++◌, length, take, set, refl, append_assoc, append-nil, add-zero, add-one, arith, length-append, length-set, take-suc-set, Option, Some, None}
 use Rattle.cells.specs.Chip.{Chip}
 use Rattle.cells.specs.Row.{put_row}
 use Rattle.cells.proofs.Rows.{row_none, row_behind, row_alone}
@@ -24,9 +22,9 @@ use Rattle.counter.proofs.Offsets.{kind_low, kind_high, bytes_length, offset_nex
 map_behind : (bs cs : List ℕ) (a : ℕ) (s : Chip) → map_row bs a s and_then map_row cs (a + length bs) ≡ map_row (bs ++ cs) a s
 map_behind bs cs a s = go (put_row bs a s).answer refl
   where
-    go : (f : Found) → (put_row bs a s).answer ≡ f → map_row bs a s and_then map_row cs (a + length bs) ≡ map_row (bs ++ cs) a s
-    go Nowhere h = unfold mapped in rw (row_behind cs bs a s h, h)
-    go (At x) h = unfold mapped in rw (row_alone cs x bs a s h, h)
+    go : (f : Option ℕ) → (put_row bs a s).answer ≡ f → map_row bs a s and_then map_row cs (a + length bs) ≡ map_row (bs ++ cs) a s
+    go None h = unfold mapped in rw (row_behind cs bs a s h, h)
+    go (Some x) h = unfold mapped in rw (row_alone cs x bs a s h, h)
 
 pub pointers_row : (layout : Layout) (addresses : List ℕ) (k : ℕ) (p : Places) (s : Chip) → put_pointers addresses k layout p s ≡ map_row (pointer_row addresses k) (p.map + offset_of k) s
 unfolding put_pointers pointer_row put_pointer mapped

@@ -3,17 +3,15 @@
 --   of_map, of_elsewhere      it is a cell of the map, and none of the area
 --   mapped_done, done_mapped, mapped_either  how a row of map bytes ends
 --   PointerLaws, pointer_laws
-use Rattle.std.proofs.Common.{◌≡◌, ℕ, ◌+◌, ◌<◌, ◌≤◌, ◌⊎◌, sym, refl, ap, ◌∙◌, inl, inr, add_assoc, arith}
+use Rattle.counter.specs.Verdict.{complete}
+use Rattle.std.proofs.Common.{◌≡◌, ℕ, ◌+◌, ◌<◌, ◌≤◌, ◌⊎◌, sym, refl, ap, ◌∙◌, inl, inr, add_assoc, arith, Option, Some, None, Err}
 use native.Mathlib.Decide.{dec_lt}
-use Rattle.cells.specs.declared.row.Found.{Found}
-use Rattle.cells.specs.declared.row.Found.TheVariants.{At, Nowhere}
 use Rattle.cells.specs.Chip.{Chip, cell_at}
 use Rattle.cells.specs.Log.{Within}
 use Rattle.cells.specs.Row.{put_row}
 use Rattle.cells.proofs.Logs.{within_wider, within_giving, within_kept}
 use Rattle.cells.proofs.Rows.{RowLaws, row_laws}
 use Rattle.counter.specs.declared.places.Places.{Places}
-use Rattle.counter.specs.declared.verdict.Work.TheVariants.{Done, Stopped}
 use Rattle.counter.specs.declared.verdict.Refusal.TheVariants.{MapByte}
 use Rattle.counter.specs.Layout.{Layout, slots}
 use Rattle.counter.specs.Slots.{kind_of}
@@ -28,27 +26,27 @@ pub record OfPointer (p : Places) (k a : ℕ) : Type 0 where
   pub to : a < p.map + offset_of k + bytes_of (kind_of k)
 
 -- a row of map bytes is done, or stops at one of them
-pub mapped_done : (f : Found) → mapped f ≡ Done → f ≡ Nowhere
+pub mapped_done : (f : Option ℕ) → mapped f ≡ complete → f ≡ None
 unfolding mapped
-mapped_done (At a) e = cc
-mapped_done Nowhere e = refl
+mapped_done (Some a) e = cc
+mapped_done None e = refl
 
-pub done_mapped : (f : Found) → f ≡ Nowhere → mapped f ≡ Done
+pub done_mapped : (f : Option ℕ) → f ≡ None → mapped f ≡ complete
 unfolding mapped
 done_mapped f e = rw e
 
-pub mapped_either : (f : Found) → (mapped f ≡ Done) ⊎ ((a : ℕ) × (mapped f ≡ Stopped (MapByte a)))
+pub mapped_either : (f : Option ℕ) → (mapped f ≡ complete) ⊎ ((a : ℕ) × (mapped f ≡ Err (MapByte a)))
 unfolding mapped
-mapped_either (At a) = inr (a, refl)
-mapped_either Nowhere = inl refl
+mapped_either (Some a) = inr (a, refl)
+mapped_either None = inl refl
 
 pub record PointerLaws (layout : Layout) (p : Places) (k a : ℕ) (s : Chip) : Type 0 where
   pub within : Within (OfPointer p k) s (put_pointer layout p k a s)
   pub tried : (put_pointer layout p k a s).tried ≡ 0
-  pub held : (put_pointer layout p k a s).answer ≡ Done → pointers layout p (put_pointer layout p k a s).after k ≡ a
+  pub held : (put_pointer layout p k a s).answer ≡ complete → pointers layout p (put_pointer layout p k a s).after k ≡ a
   pub others : (j : ℕ) → j < slots layout → (j ≡ k → ⊥) → pointers layout p (put_pointer layout p k a s).after j ≡ pointers layout p s j
   pub mark : marked (map_in layout p (put_pointer layout p k a s).after.cells) ≡ marked (map_in layout p s.cells)
-  pub either : ((put_pointer layout p k a s).answer ≡ Done) ⊎ ((x : ℕ) × ((put_pointer layout p k a s).answer ≡ Stopped (MapByte x)))
+  pub either : ((put_pointer layout p k a s).answer ≡ complete) ⊎ ((x : ℕ) × ((put_pointer layout p k a s).answer ≡ Err (MapByte x)))
 
 module _ {layout : Layout} {p : Places} {s : Chip} (ready : Ready layout p s) (k : ℕ) (l : k < slots layout) where
   pub of_map : {c : ℕ} → OfPointer p k c → InMap layout p c
@@ -79,7 +77,7 @@ module _ {layout : Layout} {p : Places} {s : Chip} (ready : Ready layout p s) (k
         let e = bytes_length (kind_of k) a in
         within_giving _ (within_wider (λ c i. record { from = i.0; to = let h = i.1 in omega arith }) row.within)
 
-    put_held : (put_pointer layout p k a s).answer ≡ Done → pointers layout p (put_pointer layout p k a s).after k ≡ a
+    put_held : (put_pointer layout p k a s).answer ≡ complete → pointers layout p (put_pointer layout p k a s).after k ≡ a
     unfolding put_pointer
     put_held e =
         let h = offset_inside layout k l in
@@ -113,5 +111,5 @@ module _ {layout : Layout} {p : Places} {s : Chip} (ready : Ready layout p s) (k
         none : (put_pointer layout p k a s).tried ≡ 0
         none = unfold put_pointer in row.tried
 
-        answers : ((put_pointer layout p k a s).answer ≡ Done) ⊎ ((x : ℕ) × ((put_pointer layout p k a s).answer ≡ Stopped (MapByte x)))
+        answers : ((put_pointer layout p k a s).answer ≡ complete) ⊎ ((x : ℕ) × ((put_pointer layout p k a s).answer ≡ Err (MapByte x)))
         answers = unfold put_pointer in mapped_either (put_row (pointer_bytes (kind_of k) a) (p.map + offset_of k) s).answer

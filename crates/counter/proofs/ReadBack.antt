@@ -5,7 +5,8 @@
 --   weigh_decides             where of each nibble some copy is not lost, the counts decide
 --   Legible, weigh_legible    where of each nibble some copy is not lost
 --   weigh_exact               where all are the count's codes
-use Rattle.std.proofs.Common.{◌≡◌, ℕ, zero, suc, ◌+◌, ◌-◌, ◌*◌, ◌%◌, ◌^◌, ◌<◌, ◌≤◌, Bool, false, ◌≢◌, List, pos, sym, refl, ap, ◌∙◌, true≢false, arith}
+use Rattle.counter.specs.Verdict.{read_as}
+use Rattle.std.proofs.Common.{◌≡◌, ℕ, zero, suc, ◌+◌, ◌-◌, ◌*◌, ◌%◌, ◌^◌, ◌<◌, ◌≤◌, Bool, false, ◌≢◌, List, pos, sym, refl, ap, ◌∙◌, true≢false, arith, None}
 use Rattle.code.specs.declared.reading.Reading.{Reading}
 use Rattle.code.specs.Readings.{reading_of, is_lost, nibble_read}
 use Rattle.code.specs.Codes.{code_of}
@@ -16,9 +17,7 @@ use Rattle.code.proofs.GrayLaws.{gray_small, count_of_gray, gray_of_count}
 use Rattle.code.proofs.NibbleLaws.{word_small, word_of_nibbles, nibble_of_word}
 use Rattle.code.proofs.CodeLaws.{code_small}
 use Rattle.code.proofs.ReadingLaws.{no_twofold, nibble_round, nibble_kept, read_or_lent}
-use Rattle.cells.specs.declared.row.Found.TheVariants.{Nowhere}
 use Rattle.code.proofs.TabulateLaws.{alike}
-use Rattle.counter.specs.declared.verdict.Verdict.TheVariants.{Good}
 use Rattle.counter.specs.Layout.{Layout, slots}
 use Rattle.counter.specs.Slots.{lowest}
 use Rattle.counter.specs.Store.{slot_code}
@@ -55,10 +54,10 @@ Spared layout test n = (copy : ℕ) × (copy < layout.copies) × (test (8 * copy
 
 module _ (layout : Layout) {byte : ℕ → ℕ} (bytes : (k : ℕ) → k < slots layout → byte k < 256)
     (spared : (n : ℕ) → n < 8 → Spared layout (λ k. is_lost (reading_of (byte k))) n) where
-  none_twofold : lowest 8 0 (some_twofold layout byte) ≡ Nowhere
+  none_twofold : lowest 8 0 (some_twofold layout byte) ≡ None
   none_twofold = none_lowest 8 0 (some_twofold layout byte) (λ n from to. none_some layout.copies _ (λ copy l. no_twofold _ (bytes (8 * copy + n) (omega arith))))
 
-  none_lost : lowest 8 0 (lost_at layout (λ k. reading_of (byte k))) ≡ Nowhere
+  none_lost : lowest 8 0 (lost_at layout (λ k. reading_of (byte k))) ≡ None
   none_lost = none_lowest 8 0 (lost_at layout (λ k. reading_of (byte k))) (λ n from to. let (copy, l, has) = spared n (omega arith) in every_not layout.copies _ copy l has)
 
   pub weigh_decides : weigh layout byte ≡ decide (count_in layout (λ k. reading_of (byte k)) 0) (count_in layout (λ k. reading_of (byte k)) (layout.copies - 1))
@@ -101,14 +100,14 @@ module _ (layout : Layout) {c : ℕ} {byte : ℕ → ℕ} (small : c < 2 ^ 32) (
   count_read copy l = count_told layout (λ k. reading_of (byte k)) copy small (λ n m. nibble_read_lem copy n l m)
 
   -- such bytes read as c, with lag 0
-  pub weigh_legible : weigh layout byte ≡ Good c (pos 0)
+  pub weigh_legible : weigh layout byte ≡ read_as c (pos 0)
   weigh_legible =
       let one = (legible.spared 0 (omega arith)).1 in
       weigh_decides layout legible.bytes legible.spared ∙ rw (count_read 0 (omega arith), count_read (layout.copies - 1) (omega arith)) (decide_same c)
 
 -- so do the codes of c
 pub weigh_exact : (layout : Layout) {c : ℕ} {byte : ℕ → ℕ} → c < 2 ^ 32 → ((k : ℕ) → k < slots layout → byte k ≡ slot_code c k)
-    → 1 ≤ layout.copies → weigh layout byte ≡ Good c (pos 0)
+    → 1 ≤ layout.copies → weigh layout byte ≡ read_as c (pos 0)
 weigh_exact layout {c} {byte} small exact one = weigh_legible layout small legible
   where
     legible : Legible layout c byte

@@ -4,7 +4,8 @@
 --   good_placed               the test turned into it
 --   map_outside               no map cell is a cell of the area
 --   not_placed                the test that fails
-use Rattle.std.proofs.Common.{◌≡◌, ℕ, ◌+◌, ◌-◌, ◌*◌, ◌<◌, ◌≤◌, Bool, true, false, ◌||◌, ltb, leb, ◌⊎◌, refl, inl, inr, arith, ltb-true, lt-ltb, le-leb, leb-true}
+--   placed_test               another test of the same
+use Rattle.std.proofs.Common.{◌≡◌, ℕ, ◌+◌, ◌-◌, ◌*◌, ◌<◌, ◌≤◌, Bool, true, false, ◌||◌, ltb, leb, ◌⊎◌, sym, refl, inl, inr, arith, ltb-true, lt-ltb, le-leb, leb-true}
 use Rattle.counter.specs.declared.places.Places.{Places}
 use Rattle.counter.specs.Layout.{Layout, slots, map_cells}
 use Rattle.counter.specs.Places.{length_good, places_good}
@@ -82,3 +83,8 @@ placed_good layout n p h =
 
 pub not_placed : (layout : Layout) (n : ℕ) (p : Places) → (Placed layout n p → ⊥) → places_good layout n p ≡ false
 not_placed layout n p h = never (places_good layout n p) (λ g. h (good_placed layout n p g))
+
+-- a test that tells whether the settings are good
+pub placed_test : (layout : Layout) (n : ℕ) (p : Places) (test : Bool) → (test ≡ true → Placed layout n p) → (test ≡ false → Placed layout n p → ⊥) → test ≡ places_good layout n p
+placed_test layout n p true good bad = sym (placed_good layout n p (good refl))
+placed_test layout n p false good bad = sym (not_placed layout n p (bad refl))

@@ -3,14 +3,13 @@
 --   stands_unmarked           and behind one that is not
 --   stands_unfit              and behind a refusal
 --   guard_unfit, guard_unmarked, guard_marked  the first tests of every door
-use Rattle.std.proofs.Common.{◌≡◌, ℕ, Bool, true, false, cond, ◌&&◌, List, length, refl, true≢false}
+use Rattle.counter.specs.Verdict.{Verdict}
+use Rattle.std.proofs.Common.{◌≡◌, ℕ, Bool, true, false, cond, ◌&&◌, List, length, refl, true≢false, Err}
 use Rattle.counter.specs.declared.places.Places.{Places}
 use Rattle.counter.specs.declared.standing.Standing.{Standing}
 use Rattle.counter.specs.declared.standing.Standing.TheVariants.{Unfit, Unmarked, Marked}
 use Rattle.counter.specs.declared.verdict.Refusal.{Refusal}
 use Rattle.counter.specs.declared.verdict.Refusal.TheVariants.{BadLength, BadPlaces, NoMark}
-use Rattle.counter.specs.declared.verdict.Verdict.{Verdict}
-use Rattle.counter.specs.declared.verdict.Verdict.TheVariants.{Refused}
 use Rattle.counter.specs.Layout.{Layout}
 use Rattle.counter.specs.Places.{length_good, places_good}
 use Rattle.counter.specs.Map.{map_in, marked}
@@ -36,7 +35,7 @@ all_unmarked true true false e = (refl, refl, refl)
 all_unmarked true false c e = absurd (true≢false cc)
 all_unmarked false b c e = absurd (true≢false cc)
 
-all_unfit : (a b c : Bool) (why : Refusal) (rest : Verdict) → standing a b c ≡ Unfit why → guard a b c rest ≡ Refused why
+all_unfit : (a b c : Bool) (why : Refusal) (rest : Verdict) → standing a b c ≡ Unfit why → guard a b c rest ≡ Err why
 all_unfit true true true why rest e = absurd (true≢false cc)
 all_unfit true true false why rest e = absurd (true≢false cc)
 all_unfit true false c why rest e = cc
@@ -63,11 +62,11 @@ module _ (layout : Layout) (p : Places) (cells : List ℕ) where
   unfolding standing_of
   stands_unmarked = all_unmarked _ _ _
 
-  pub guard_unfit : {why : Refusal} (rest : Verdict) → standing_of layout p cells ≡ Unfit why → guarded layout p cells rest ≡ Refused why
+  pub guard_unfit : {why : Refusal} (rest : Verdict) → standing_of layout p cells ≡ Unfit why → guarded layout p cells rest ≡ Err why
   unfolding standing_of
   guard_unfit {why} rest e = all_unfit (length_good layout (length cells)) (places_good layout (length cells) p) (marked (map_in layout p cells)) why rest e
 
-  pub guard_unmarked : (rest : Verdict) → standing_of layout p cells ≡ Unmarked → guarded layout p cells rest ≡ Refused NoMark
+  pub guard_unmarked : (rest : Verdict) → standing_of layout p cells ≡ Unmarked → guarded layout p cells rest ≡ Err NoMark
   guard_unmarked rest e = let facts = stands_unmarked e in rw (facts.0, facts.1, facts.2)
 
   pub guard_marked : (rest : Verdict) → standing_of layout p cells ≡ Marked → guarded layout p cells rest ≡ rest

@@ -1,18 +1,15 @@
 -- A step that tried no spare leaves the map.
 --   Unmoved                   work that leaves the map, and the image as long as it was
 --   step_unmoved              a step in which no spare was tried
-use Rattle.std.proofs.Common.{◌≡◌, ℕ, ◌+◌, length, ℤ, sym, refl, ◌∙◌, arith}
+use Rattle.std.proofs.Common.{◌≡◌, ℕ, ◌+◌, length, ℤ, sym, refl, ◌∙◌, arith, Ok, Err}
 use native.Mathlib.Decide.{ℕ_discrete}
 use Rattle.cells.specs.Chip.{Chip}
 use Rattle.cells.specs.Run.{Run, still}
 use Rattle.cells.proofs.Logs.{within_kept}
 use Rattle.counter.specs.declared.places.Places.{Places}
-use Rattle.counter.specs.declared.verdict.Verdict.{Verdict}
-use Rattle.counter.specs.declared.verdict.Verdict.TheVariants.{Good, Refused}
-use Rattle.counter.specs.declared.verdict.Work.{Work}
 use Rattle.counter.specs.Layout.{Layout, slots}
 use Rattle.counter.specs.Map.{map_in}
-use Rattle.counter.specs.Verdict.{outcome_of, ◌and_then◌}
+use Rattle.counter.specs.Verdict.{outcome_of, ◌and_then◌, Verdict, Work, read_as}
 use Rattle.counter.specs.Store.{store}
 use Rattle.counter.specs.Doors.{last_count, chip_verdict, step_run, step_of}
 use Rattle.counter.proofs.SoundPointers.{Sound}
@@ -73,7 +70,7 @@ module _ (layout : Layout) (p : Places) (s : Chip) where
   pub step_unmoved : (step_of layout p s).says.tried ≡ 0 → Unmoved layout p s (step_of layout p s).leaves
   step_unmoved = rw (step_is layout p s) (go (chip_verdict layout p s) refl)
     where
-      counted : (c : ℕ) (lag : ℤ) → chip_verdict layout p s ≡ Good c lag → Dec (c ≡ last_count) → Leaves (step_run layout p s)
+      counted : (c : ℕ) (lag : ℤ) → chip_verdict layout p s ≡ read_as c lag → Dec (c ≡ last_count) → Leaves (step_run layout p s)
       counted c lag e (yes l) = refused_leaves (step_last layout p s c lag e l)
       counted c lag e (no n) =
           let good = (verdict_good layout p s e).1 in
@@ -81,5 +78,5 @@ module _ (layout : Layout) (p : Places) (s : Chip) where
           rw (step_on layout p s c lag e n) (λ none. twice.unmoved (sym (storing_tried (c + 1) lag (store layout p c s and_then store layout p (c + 1)) twice.ended) ∙ none))
 
       go : (v : Verdict) → chip_verdict layout p s ≡ v → Leaves (step_run layout p s)
-      go (Good c lag) e = counted c lag e (ℕ_discrete c last_count)
-      go (Refused why) e = refused_leaves (step_refused layout p s why e)
+      go (Ok (c, lag)) e = counted c lag e (ℕ_discrete c last_count)
+      go (Err why) e = refused_leaves (step_refused layout p s why e)

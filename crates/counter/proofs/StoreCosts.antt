@@ -3,9 +3,7 @@
 --   pointer_few               a pointer
 --   move_few, slot_few        a byte moved, and a slot
 --   store_cost, store_few, twice_few  a count, and two
-use Rattle.std.proofs.Common.{◌≡◌, ℕ, zero, suc, ◌+◌, ◌*◌, ◌≤◌, Bool, true, false, length, refl, arith, length-append}
-use Rattle.cells.specs.declared.row.Found.{Found}
-use Rattle.cells.specs.declared.row.Found.TheVariants.{At, Nowhere}
+use Rattle.std.proofs.Common.{◌≡◌, ℕ, zero, suc, ◌+◌, ◌*◌, ◌≤◌, Bool, true, false, length, refl, arith, length-append, Option, Some, None, Ok, Err}
 use Rattle.cells.specs.Chip.{Chip}
 use Rattle.cells.specs.Run.{Run, Seen, view}
 use Rattle.cells.proofs.Logs.{within_kept}
@@ -16,13 +14,11 @@ use Rattle.counter.specs.declared.map.Kind.{Kind}
 use Rattle.counter.specs.declared.map.Kind.TheVariants.{High, Low}
 use Rattle.counter.specs.declared.places.Places.{Places}
 use Rattle.counter.specs.declared.spares.Gap.{Gap}
-use Rattle.counter.specs.declared.verdict.Work.{Work}
-use Rattle.counter.specs.declared.verdict.Work.TheVariants.{Done, Stopped}
 use Rattle.counter.specs.Layout.{Layout, slots}
 use Rattle.counter.specs.Slots.{kind_of}
 use Rattle.counter.specs.Inside.{fitted}
 use Rattle.counter.specs.Map.{offset_of, pointer_bytes, sound}
-use Rattle.counter.specs.Verdict.{◌and_then◌}
+use Rattle.counter.specs.Verdict.{◌and_then◌, Work, complete}
 use Rattle.counter.specs.Store.{slot_code, put_pointer, try_spares, move_slot, store_slot, store_from, store}
 use Rattle.counter.proofs.Offsets.{bytes_of, bytes_length}
 use Rattle.counter.proofs.SoundPointers.{Sound, test_sound, sound_test}
@@ -38,7 +34,7 @@ pub record Costs {A : Type 0} (writes tried : ℕ) (r : Run A) : Type 0 where
   pub asks : length r.log ≤ writes
   pub tries : r.tried ≤ tried
 
-pub tries_few : (k : ℕ) (g : Gap) (b : ℕ) (s : Chip) {v : Seen Found} → v ≡ view (try_spares k g b s) → (v.writes ≤ v.tried) × (v.tried ≤ room g)
+pub tries_few : (k : ℕ) (g : Gap) (b : ℕ) (s : Chip) {v : Seen (Option ℕ)} → v ≡ view (try_spares k g b s) → (v.writes ≤ v.tried) × (v.tried ≤ room g)
 unfolding try_spares
 tries_few k g b s e = let few = walk_few _ _ _ _ _ e in let all = spares_room (kind_of k) g in (few.0, omega arith)
 
@@ -71,9 +67,9 @@ module _ {layout : Layout} {p : Places} {s : Chip} (ready : Ready layout p s) (k
   pub move_cost : Costs 4098 4096 (move_slot layout p k b s)
   move_cost = go (tries layout p k b s).answer refl
     where
-      go : (f : Found) → (tries layout p k b s).answer ≡ f → Costs 4098 4096 (move_slot layout p k b s)
-      go Nowhere h = rw (move_missing layout p k b s h) (record { asks = rw length-append (omega (arith, tries_cost)); tries = omega (arith, tries_cost) })
-      go (At a) h =
+      go : (f : Option ℕ) → (tries layout p k b s).answer ≡ f → Costs 4098 4096 (move_slot layout p k b s)
+      go None h = rw (move_missing layout p k b s h) (record { asks = rw length-append (omega (arith, tries_cost)); tries = omega (arith, tries_cost) })
+      go (Some a) h =
           let pointer = pointer_cost layout p k a (tries layout p k b s).after in
           rw (move_landing layout p k b s a h) (record { asks = rw length-append (omega (arith, tries_cost)); tries = omega (arith, tries_cost) })
 
@@ -117,7 +113,7 @@ module _ (layout : Layout) (p : Places) (c : ℕ) where
       few : Costs (4099 * suc n) (4096 * suc n) r
       few = record { asks = omega (arith, slot); tries = omega (arith, slot) }
 
-      go : Ended r.answer → (r.answer ≡ Done → Costs (4099 * n) (4096 * n) (store_from n (k + 1) layout p c r.after)) → Costs (4099 * suc n) (4096 * suc n) (r and_then store_from n (k + 1) layout p c)
+      go : Ended r.answer → (r.answer ≡ complete → Costs (4099 * n) (4096 * n) (store_from n (k + 1) layout p c r.after)) → Costs (4099 * suc n) (4096 * suc n) (r and_then store_from n (k + 1) layout p c)
       go (done e) rest = let others = rest e in rw (done_then r _ e) (record { asks = rw length-append (omega (arith, slot)); tries = omega (arith, slot) })
       go (roomless j e) rest = rw (stopped_then r _ _ e) few
       go (unmapped a e) rest = rw (stopped_then r _ _ e) few
@@ -142,9 +138,9 @@ twice_few layout p c d s good well = go (store layout p c s).answer refl
     few = store_cost layout p c s good well
 
     go : (w : Work) → (store layout p c s).answer ≡ w → length (store layout p c s and_then store layout p d).log ≤ 8198 * slots layout
-    go Done h =
+    go (Ok tt) h =
         let laws = store_laws layout p c s (fitted_ready good) (test_sound layout p _ well) in
         let fit = ready_fitted (ready_kept (fitted_ready good) (within_kept laws.within)) in
         let more = store_cost layout p d (store layout p c s).after fit (sound_test layout p _ (laws.stored h).sound) in
         rw (done_then (store layout p c s) (store layout p d) h, length-append) (omega (arith, few, more))
-    go (Stopped why) h = rw (stopped_then (store layout p c s) (store layout p d) why h) (omega (arith, few))
+    go (Err why) h = rw (stopped_then (store layout p c s) (store layout p d) why h) (omega (arith, few))

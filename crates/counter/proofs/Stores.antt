@@ -4,19 +4,17 @@
 --   AllHeld                   what such a store comes to where it is done
 --   StoreLaws                 the laws of storing the n slots from k on
 --   from_laws, store_laws     they hold of storing so
-use Rattle.std.proofs.Common.{◌≡◌, ℕ, zero, suc, ◌+◌, ◌<◌, ◌≤◌, ◌++◌, sym, refl, ap, ◌∙◌, ap₂, arith}
+use Rattle.std.proofs.Common.{◌≡◌, ℕ, zero, suc, ◌+◌, ◌<◌, ◌≤◌, ◌++◌, sym, refl, ap, ◌∙◌, ap₂, arith, Err}
 use native.Mathlib.Decide.{ℕ_discrete}
 use Rattle.cells.specs.Chip.{Chip}
 use Rattle.cells.specs.Run.{Run, still, ◌then◌}
 use Rattle.cells.specs.Log.{asked_in, Within}
 use Rattle.cells.proofs.Logs.{asked_none, asked_append, within_still, within_then, within_kept}
 use Rattle.counter.specs.declared.places.Places.{Places}
-use Rattle.counter.specs.declared.verdict.Work.{Work}
-use Rattle.counter.specs.declared.verdict.Work.TheVariants.{Done, Stopped}
 use Rattle.counter.specs.declared.verdict.Refusal.{Refusal}
 use Rattle.counter.specs.Layout.{Layout, slots}
 use Rattle.counter.specs.Map.{map_in, marked}
-use Rattle.counter.specs.Verdict.{◌and_then◌}
+use Rattle.counter.specs.Verdict.{◌and_then◌, Work, complete}
 use Rattle.counter.specs.Store.{slot_code, store_slot, store_from, store}
 use Rattle.counter.proofs.SoundPointers.{Sound}
 use Rattle.counter.proofs.Ready.{pointers, data_of, Ready, Own, ready_kept}
@@ -25,10 +23,10 @@ use Rattle.counter.proofs.Moves.{room_of, change, not_done, Ended, Ended.done, E
 -- ## One piece of storing and then another
 
 module _ (r : Run Work) (work : Chip → Run Work) where
-  pub done_then : r.answer ≡ Done → r and_then work ≡ r then work r.after
+  pub done_then : r.answer ≡ complete → r and_then work ≡ r then work r.after
   done_then e = rw e
 
-  pub stopped_then : (why : Refusal) → r.answer ≡ Stopped why → r and_then work ≡ r
+  pub stopped_then : (why : Refusal) → r.answer ≡ Err why → r and_then work ≡ r
   stopped_then why e = rw e
 
 -- ## What storing comes to
@@ -57,16 +55,16 @@ pub record StoreLaws (layout : Layout) (p : Places) (n k c : ℕ) (s : Chip) (r 
   pub mark : marked (map_in layout p r.after.cells) ≡ marked (map_in layout p s.cells)
   pub unmoved : r.tried ≡ 0 → map_in layout p r.after.cells ≡ map_in layout p s.cells
   pub bounded : asked_in p.start p.end r.log ≤ changes n k (data_of layout p s) (slot_code c) + room_of layout p s
-  pub stored : r.answer ≡ Done → AllHeld layout p n k c s r
+  pub stored : r.answer ≡ complete → AllHeld layout p n k c s r
   pub ended : Ended r.answer
 
 module _ (layout : Layout) (p : Places) (c : ℕ) where
-  none_laws : (k : ℕ) (s : Chip) → Sound (slots layout) p (pointers layout p s) → StoreLaws layout p 0 k c s (still Done s)
+  none_laws : (k : ℕ) (s : Chip) → Sound (slots layout) p (pointers layout p s) → StoreLaws layout p 0 k c s (still complete s)
   unfolding changes
   none_laws k s sound =
       let z = asked_none p.start p.end in
       record {
-        within = within_still Done s;
+        within = within_still complete s;
         mark = refl;
         unmoved = λ e. refl;
         bounded = omega arith;
@@ -76,7 +74,7 @@ module _ (layout : Layout) (p : Places) (c : ℕ) where
 
   -- a slot that stops ends the storing
   stopped_laws :
-      (n k : ℕ) (s : Chip) (r : Run Work) (why : Refusal) → r.answer ≡ Stopped why
+      (n k : ℕ) (s : Chip) (r : Run Work) (why : Refusal) → r.answer ≡ Err why
       → SlotLaws layout p k (slot_code c k) (change (data_of layout p s k) (slot_code c k)) s r
       → StoreLaws layout p (suc n) k c s r
   unfolding changes
@@ -93,7 +91,7 @@ module _ (layout : Layout) (p : Places) (c : ℕ) where
   -- a slot that is done, and then the rest
   done_laws :
       (n k : ℕ) (s : Chip) (r q : Run Work) → k + suc n ≤ slots layout
-      → SlotLaws layout p k (slot_code c k) (change (data_of layout p s k) (slot_code c k)) s r → r.answer ≡ Done
+      → SlotLaws layout p k (slot_code c k) (change (data_of layout p s k) (slot_code c k)) s r → r.answer ≡ complete
       → StoreLaws layout p n (k + 1) c r.after q → StoreLaws layout p (suc n) k c s (r then q)
   unfolding changes
   done_laws n k s r q fits m e rest =
@@ -143,7 +141,7 @@ module _ (layout : Layout) (p : Places) (c : ℕ) where
 
       go :
           Ended r.answer
-          → (r.answer ≡ Done → StoreLaws layout p n (k + 1) c r.after (store_from n (k + 1) layout p c r.after))
+          → (r.answer ≡ complete → StoreLaws layout p n (k + 1) c r.after (store_from n (k + 1) layout p c r.after))
           → StoreLaws layout p (suc n) k c s (r and_then store_from n (k + 1) layout p c)
       go (done e) rest = rw (done_then r _ e) (done_laws n k s r _ fits slot e (rest e))
       go (roomless j e) rest = rw (stopped_then r _ _ e) (stopped_laws n k s r _ e slot)

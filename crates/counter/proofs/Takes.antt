@@ -4,10 +4,9 @@
 --   take_landing, take_missing  a taking, by what the spares of its first slot come to
 --   AllTaken                  what the taking comes to where it is done
 --   TakeLaws, take_laws       the laws of taking addresses for the n slots from k on
-use Rattle.std.proofs.Common.{◌≡◌, ℕ, zero, suc, ◌+◌, ◌<◌, ◌≤◌, ◌⊎◌, [], ◌∷◌, length, get_or, refl, ap, ◌∙◌, inl, inr, add-zero, add-one, arith}
+use Rattle.counter.specs.Verdict.{complete}
+use Rattle.std.proofs.Common.{◌≡◌, ℕ, zero, suc, ◌+◌, ◌<◌, ◌≤◌, ◌⊎◌, [], ◌∷◌, length, get_or, refl, ap, ◌∙◌, inl, inr, add-zero, add-one, arith, Option, Some, None, Err}
 use Rattle.code.specs.Codes.{code_of}
-use Rattle.cells.specs.declared.row.Found.{Found}
-use Rattle.cells.specs.declared.row.Found.TheVariants.{At, Nowhere}
 use Rattle.cells.specs.Chip.{Chip, cell_at, Paired, Kept}
 use Rattle.cells.specs.Run.{Run, still, ◌then◌, ◌giving◌}
 use Rattle.cells.specs.Log.{Within}
@@ -17,7 +16,6 @@ use Rattle.counter.specs.declared.map.Kind.{Kind}
 use Rattle.counter.specs.declared.map.Kind.TheVariants.{High, Low}
 use Rattle.counter.specs.declared.places.Places.{Places}
 use Rattle.counter.specs.declared.spares.Gap.{Gap}
-use Rattle.counter.specs.declared.verdict.Work.TheVariants.{Done, Stopped}
 use Rattle.counter.specs.declared.verdict.Refusal.TheVariants.{NoSpare}
 use Rattle.counter.specs.Slots.{kind_of}
 use Rattle.counter.specs.Spares.{narrow}
@@ -46,8 +44,8 @@ pub record AllTaken (n k : ℕ) (g : Gap) (r : Run TakenRun) : Type 0 where
 
 pub record TakeLaws (n k : ℕ) (g : Gap) (s : Chip) (r : Run TakenRun) : Type 0 where
   pub within : Within (InGap g) s r
-  pub all : r.answer.work ≡ Done → AllTaken n k g r
-  pub either : (r.answer.work ≡ Done) ⊎ ((j : ℕ) × (r.answer.work ≡ Stopped (NoSpare j)))
+  pub all : r.answer.work ≡ complete → AllTaken n k g r
+  pub either : (r.answer.work ≡ complete) ⊎ ((j : ℕ) × (r.answer.work ≡ Err (NoSpare j)))
 
 -- what lies in the gap that a free address leaves lies in the gap, and is another
 pub narrow_inside : (kind : Kind) (g : Gap) (a c : ℕ) → Free kind g a → InGap (narrow kind a g) c → InGap g c
@@ -61,7 +59,7 @@ narrow_other High g a i = let h = i.from in omega arith
 narrow_other Low g a i = let h = i.to in omega arith
 
 module _ (n k : ℕ) (g : Gap) (s : Chip) where
-  abbrev spares : Run Found
+  abbrev spares : Run (Option ℕ)
   spares = try_spares k g (code_of 0) s
 
   -- the taking behind the address a
@@ -71,18 +69,18 @@ module _ (n k : ℕ) (g : Gap) (s : Chip) where
   abbrev one_more : ℕ → Run TakenRun
   one_more a = spares then (rest a giving taken (rest a).answer.work (a ∷ (rest a).answer.addresses))
 
-  pub take_landing : (a : ℕ) → spares.answer ≡ At a → take_from (suc n) k g s ≡ one_more a
+  pub take_landing : (a : ℕ) → spares.answer ≡ Some a → take_from (suc n) k g s ≡ one_more a
   unfolding take_from
   take_landing a e = rw e
 
-  pub take_missing : spares.answer ≡ Nowhere → take_from (suc n) k g s ≡ spares then still (taken (Stopped (NoSpare k)) []) spares.after
+  pub take_missing : spares.answer ≡ None → take_from (suc n) k g s ≡ spares then still (taken (Err (NoSpare k)) []) spares.after
   unfolding take_from
   take_missing e = rw e
 
   spares_within : Paired s → Within (InGap g) s spares
   spares_within paired = within_wider (λ c f. record { from = f.from; to = f.to }) (try_laws k g (code_of 0) s paired).within
 
-  missing_takes : Paired s → TakeLaws (suc n) k g s (spares then still (taken (Stopped (NoSpare k)) []) spares.after)
+  missing_takes : Paired s → TakeLaws (suc n) k g s (spares then still (taken (Err (NoSpare k)) []) spares.after)
   missing_takes paired =
       record {
         within = within_then (spares_within paired) (within_still _ _);

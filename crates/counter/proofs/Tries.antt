@@ -6,9 +6,7 @@
 --   Landing                   a spare holds: the chip is that one put from the start
 --   Trying, TryLaws, try_laws
 --   try_nowhere               no spare holds exactly where each refuses
-use Rattle.std.proofs.Common.{◌≡◌, ℕ, ◌+◌, ◌-◌, ◌<◌, ◌≤◌, ◌↔◌, List, length, sym, ap, ◌∙◌, true≢false, arith, length-append, ne_eqb}
-use Rattle.cells.specs.declared.row.Found.{Found}
-use Rattle.cells.specs.declared.row.Found.TheVariants.{At, Nowhere}
+use Rattle.std.proofs.Common.{◌≡◌, ℕ, ◌+◌, ◌-◌, ◌<◌, ◌≤◌, ◌↔◌, List, length, sym, ap, ◌∙◌, true≢false, arith, length-append, ne_eqb, Option, Some, None}
 use Rattle.cells.specs.Chip.{Chip, cell_at, Paired, Kept}
 use Rattle.cells.specs.Run.{Write, Run, run}
 use Rattle.cells.specs.Log.{Within}
@@ -32,15 +30,15 @@ abbrev pub asked_spares : ℕ → Gap → ℕ → List Write
 asked_spares k g b = asks (spares_of (kind_of k) g) (way_of (kind_of k)) (next_of (kind_of k) g) b
 
 pub record Missing (k : ℕ) (g : Gap) (b : ℕ) (s : Chip) : Type 0 where
-  pub nowhere : (try_spares k g b s).answer ≡ Nowhere
+  pub nowhere : (try_spares k g b s).answer ≡ None
   pub same : (try_spares k g b s).after ≡ s
   pub refused : (a : ℕ) → Free (kind_of k) g a → Refuses a b s
-  pub comes : try_spares k g b s ≡ run Nowhere (asked_spares k g b) (spares_of (kind_of k) g) s
+  pub comes : try_spares k g b s ≡ run None (asked_spares k g b) (spares_of (kind_of k) g) s
   pub cost : length (try_spares k g b s).log ≤ room g
 
 pub record Landing (k : ℕ) (g : Gap) (b : ℕ) (s : Chip) : Type 0 where
   pub place : ℕ
-  pub here : (try_spares k g b s).answer ≡ At place
+  pub here : (try_spares k g b s).answer ≡ Some place
   pub free : Free (kind_of k) g place
   pub kept : Kept (λ c. c ≡ place) s (try_spares k g b s).after
   pub held : cell_at (try_spares k g b s).after place ≡ b
@@ -85,7 +83,7 @@ module _ (k : ℕ) (g : Gap) (b : ℕ) (s : Chip) (paired : Paired s) where
       let put = put_laws a b s paired in
       record {
         place = a;
-        here = ap (λ (r : Run Found). r.answer) m.comes;
+        here = ap (λ (r : Run (Option ℕ)). r.answer) m.comes;
         free = walked_free (kind_of k) g m.index m.inside;
         kept = rw m.comes put.kept;
         held = rw m.comes (put.held m.held);
@@ -98,8 +96,8 @@ module _ (k : ℕ) (g : Gap) (b : ℕ) (s : Chip) (paired : Paired s) where
   unfolding try_spares
   missed_all m =
       record {
-        nowhere = ap (λ (r : Run Found). r.answer) m.comes;
-        same = ap (λ (r : Run Found). r.after) m.comes;
+        nowhere = ap (λ (r : Run (Option ℕ)). r.answer) m.comes;
+        same = ap (λ (r : Run (Option ℕ)). r.after) m.comes;
         refused = λ a f. let j = free_walked (kind_of k) g a f in rw j.2 at (m.refused j.0 j.1);
         comes = m.comes;
         cost = let h = spares_room (kind_of k) g in rw (m.comes, asks_length) h;
@@ -119,9 +117,9 @@ module _ (k : ℕ) (g : Gap) (b : ℕ) (s : Chip) (paired : Paired s) where
 -- no spare holds exactly where each refuses
 pub try_nowhere :
     (k : ℕ) (g : Gap) (b : ℕ) (s : Chip) → Paired s
-    → ((try_spares k g b s).answer ≡ Nowhere) ↔ ((a : ℕ) → Free (kind_of k) g a → Refuses a b s)
+    → ((try_spares k g b s).answer ≡ None) ↔ ((a : ℕ) → Free (kind_of k) g a → Refuses a b s)
 try_nowhere k g b s paired = go (try_laws k g b s paired).trying
   where
-    go : Trying k g b s → ((try_spares k g b s).answer ≡ Nowhere) ↔ ((a : ℕ) → Free (kind_of k) g a → Refuses a b s)
+    go : Trying k g b s → ((try_spares k g b s).answer ≡ None) ↔ ((a : ℕ) → Free (kind_of k) g a → Refuses a b s)
     go (missing m) = (λ e. m.refused, λ f. m.nowhere)
     go (landing m) = (λ e. absurd (true≢false cc), λ f. absurd (m.takes (f m.place m.free)))

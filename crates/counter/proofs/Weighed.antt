@@ -2,7 +2,7 @@
 --   nibble_two                a nibble of one copy takes the other's where it is lost
 --   weigh_same                bytes that agree on all slots come to the same
 --   weigh_entries             what the bytes come to, by their entries
-use Rattle.std.proofs.Common.{◌≡◌, ℕ, zero, suc, ◌+◌, ◌-◌, ◌*◌, ◌<◌, cond, List, sym, refl, ap, ◌∙◌, zero-add, arith}
+use Rattle.std.proofs.Common.{◌≡◌, ℕ, zero, suc, ◌+◌, ◌-◌, ◌*◌, ◌<◌, cond, ◌&&◌, ◌||◌, List, sym, refl, ap, ◌∙◌, zero-add, arith}
 use Rattle.code.specs.declared.reading.Reading.{Reading}
 use Rattle.code.specs.Readings.{reading_of, twofold, is_lost, nibble_read}
 use Rattle.code.specs.Entries.{reading_at, twofold_at, entry_of}
@@ -10,12 +10,10 @@ use Rattle.code.specs.Gray.{count_of}
 use Rattle.code.specs.Nibbles.{word_of}
 use Rattle.code.proofs.ReadingLaws.{entry_reading, entry_twofold, lost_zero, read_or_lent}
 use Rattle.code.proofs.TabulateLaws.{alike}
-use Rattle.counter.specs.declared.reading.Fault.TheVariants.{Twofold, LostInAll}
 use Rattle.counter.specs.declared.verdict.Refusal.TheVariants.{TwoCodes, LostNibble}
 use Rattle.counter.specs.Layout.{two}
 use Rattle.counter.specs.Slots.{every, some, lowest}
 use Rattle.counter.specs.Reading.{first_read, nibble_in, count_in, some_twofold, lost_at, decide, on_found, weigh}
-use Rattle.counter.specs.Inside.{amiss}
 use Rattle.counter.proofs.RangeTests.{every_same, some_same, lowest_same}
 
 -- the nibble of a reading, by way of a test that it is not lost
@@ -47,24 +45,24 @@ module _ (byte entry : ℕ → ℕ) (small : (k : ℕ) → k < 16 → byte k < 2
   folded : (k : ℕ) → k < 16 → twofold (byte k) ≡ twofold_at (entry k)
   folded k l = sym (entry_twofold (byte k) (small k l)) ∙ ap twofold_at (sym (are k l))
 
-  twofold_entries : lowest 8 0 (some_twofold two byte) ≡ lowest 8 0 (λ n. amiss Twofold (entry n) (entry (8 + n)))
+  twofold_entries : lowest 8 0 (some_twofold two byte) ≡ lowest 8 0 (λ n. twofold_at (entry n) || twofold_at (entry (8 + n)))
   unfolding some
   twofold_entries = lowest_same 8 0 _ _ (λ n from to. same n to)
     where
-      same : (n : ℕ) → n < 0 + 8 → some_twofold two byte n ≡ amiss Twofold (entry n) (entry (8 + n))
+      same : (n : ℕ) → n < 0 + 8 → some_twofold two byte n ≡ twofold_at (entry n) || twofold_at (entry (8 + n))
       same n to = rw (zero-add n, folded n (omega arith), folded (8 + n) (omega arith))
 
-  lost_entries : lowest 8 0 (lost_at two (λ k. reading_of (byte k))) ≡ lowest 8 0 (λ n. amiss LostInAll (entry n) (entry (8 + n)))
+  lost_entries : lowest 8 0 (lost_at two (λ k. reading_of (byte k))) ≡ lowest 8 0 (λ n. is_lost (reading_at (entry n)) && is_lost (reading_at (entry (8 + n))))
   unfolding every
   lost_entries = lowest_same 8 0 _ _ (λ n from to. same n to)
     where
-      same : (n : ℕ) → n < 0 + 8 → lost_at two (λ k. reading_of (byte k)) n ≡ amiss LostInAll (entry n) (entry (8 + n))
+      same : (n : ℕ) → n < 0 + 8 → lost_at two (λ k. reading_of (byte k)) n ≡ is_lost (reading_at (entry n)) && is_lost (reading_at (entry (8 + n)))
       same n to = rw (zero-add n, read n (omega arith), read (8 + n) (omega arith))
 
   -- what the bytes come to, by their entries
   pub weigh_entries : weigh two byte
-      ≡ on_found (lowest 8 0 (λ n. amiss Twofold (entry n) (entry (8 + n)))) TwoCodes
-      (on_found (lowest 8 0 (λ n. amiss LostInAll (entry n) (entry (8 + n)))) LostNibble
+      ≡ on_found (lowest 8 0 (λ n. twofold_at (entry n) || twofold_at (entry (8 + n)))) TwoCodes
+      (on_found (lowest 8 0 (λ n. is_lost (reading_at (entry n)) && is_lost (reading_at (entry (8 + n))))) LostNibble
       (decide (count_in two (λ k. reading_at (entry k)) 0) (count_in two (λ k. reading_at (entry k)) 1)))
   unfolding weigh
   weigh_entries = rw (twofold_entries, lost_entries, count_same _ (λ k. reading_at (entry k)) read 0 (omega arith), count_same _ (λ k. reading_at (entry k)) read 1 (omega arith))

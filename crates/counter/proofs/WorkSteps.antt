@@ -5,17 +5,15 @@
 --   whole_gap                 before any address is taken, the gap is the area
 --   take_none                 no address is left to be taken; one more is `take_landing` or `take_missing`
 --   opening_on, opening_ends  all addresses were taken and the map is put, or one was not and that is all
-use Rattle.std.proofs.Common.{◌≡◌, ℕ, suc, ◌+◌, [], refl}
+use Rattle.std.proofs.Common.{◌≡◌, ℕ, suc, ◌+◌, [], refl, Err}
 use Rattle.cells.specs.Chip.{Chip}
 use Rattle.cells.specs.Run.{Run, still, ◌then◌, ◌giving◌}
 use Rattle.counter.specs.declared.places.Places.{Places}
 use Rattle.counter.specs.declared.spares.Gap.{Gap}
-use Rattle.counter.specs.declared.verdict.Work.{Work}
-use Rattle.counter.specs.declared.verdict.Work.TheVariants.{Done, Stopped}
 use Rattle.counter.specs.declared.verdict.Refusal.{Refusal}
 use Rattle.counter.specs.Layout.{Layout, slots}
 use Rattle.counter.specs.Spares.{gap, whole_area}
-use Rattle.counter.specs.Verdict.{◌and_then◌}
+use Rattle.counter.specs.Verdict.{◌and_then◌, Work, complete}
 use Rattle.counter.specs.Store.{slot_code, store_slot, store_from, store}
 use Rattle.counter.specs.Opening.{Taken, taken, take_from, put_pointers, put_mark, untried, first_opening}
 use Rattle.counter.proofs.Moves.{change}
@@ -28,7 +26,7 @@ module _ (layout : Layout) (p : Places) (c : ℕ) where
   unfolding store
   store_all s = refl
 
-  pub store_none : (k : ℕ) (s : Chip) → store_from 0 k layout p c s ≡ still Done s
+  pub store_none : (k : ℕ) (s : Chip) → store_from 0 k layout p c s ≡ still complete s
   unfolding store_from
   store_none k s = refl
 
@@ -51,7 +49,7 @@ pub whole_gap : (p : Places) → whole_area p ≡ gap p.start (p.end + 1)
 unfolding whole_area
 whole_gap p = refl
 
-pub take_none : (k : ℕ) (g : Gap) (s : Chip) → take_from 0 k g s ≡ still (taken Done []) s
+pub take_none : (k : ℕ) (g : Gap) (s : Chip) → take_from 0 k g s ≡ still (taken complete []) s
 unfolding take_from
 take_none k g s = refl
 
@@ -67,10 +65,10 @@ module _ (layout : Layout) (p : Places) (s : Chip) where
   abbrev took : Run Work
   took = untried taking giving taking.answer.work
 
-  pub opening_on : taking.answer.work ≡ Done → first_opening layout p s ≡ took then mapping taking.after
+  pub opening_on : taking.answer.work ≡ complete → first_opening layout p s ≡ took then mapping taking.after
   unfolding first_opening
   opening_on e = done_then took mapping e
 
-  pub opening_ends : {why : Refusal} → taking.answer.work ≡ Stopped why → first_opening layout p s ≡ took
+  pub opening_ends : {why : Refusal} → taking.answer.work ≡ Err why → first_opening layout p s ≡ took
   unfolding first_opening
   opening_ends {why} e = stopped_then took mapping why e

@@ -1,19 +1,17 @@
 -- The four doors: each one's whole outcome, and its promise, the relation between what was lent, the answer
 -- and what is left (document 01, "Storing, opening, stepping" and "What comes back"; document 02, P1).
-use Rattle.std.specs.Prelude.{◌≡◌, ℕ, ◌+◌, ◌-◌, cond, ◌&&◌, List, length, take, drop, ℤ, pos, ◌==◌, nat_le}
+use Rattle.std.specs.Prelude.{◌≡◌, ℕ, ◌+◌, ◌-◌, cond, ◌&&◌, List, length, take, drop, ℤ, pos, ◌==◌, nat_le, Ok, Err}
 use Rattle.cells.specs.Chip.{Chip}
 use Rattle.cells.specs.Run.{Run, still}
 use Rattle.counter.specs.declared.doors.Part.{Part}
 use Rattle.counter.specs.declared.doors.ReadAnswer.{ReadAnswer}
 use Rattle.counter.specs.declared.places.Places.{Places}
 use Rattle.counter.specs.declared.verdict.Answer.{Answer}
-use Rattle.counter.specs.declared.verdict.Verdict.{Verdict}
-use Rattle.counter.specs.declared.verdict.Verdict.TheVariants.{Good, Refused}
 use Rattle.counter.specs.declared.verdict.Refusal.TheVariants.{BadLength, BadPlaces, UnsoundMap, BadCopy, LastCount}
 use Rattle.counter.specs.Layout.{Layout, two, copy_cells}
 use Rattle.counter.specs.Places.{length_good, places_good, lives_good}
 use Rattle.counter.specs.Map.{map_in, marked, pointer_of, sound, part_at}
-use Rattle.counter.specs.Verdict.{Outcome, outcome, outcome_of, refusal_of, answer_of, on_good, provided, ◌ending_in◌, ◌and_then◌}
+use Rattle.counter.specs.Verdict.{Outcome, outcome, outcome_of, refusal_of, answer_of, on_good, provided, ◌ending_in◌, ◌and_then◌, Verdict, read_as}
 use Rattle.counter.specs.Reading.{unless, guarded, examine, verdict_of}
 use Rattle.counter.specs.Mended.{bits_of}
 use Rattle.counter.specs.Store.{store}
@@ -29,11 +27,11 @@ chip_verdict layout p s = unless (lives_good s) BadLength (verdict_of layout p s
 
 -- Open, both mark bytes right: read c, store c.
 abbrev pub reopening : Layout → Places → Chip → Run Verdict
-reopening layout p s = on_good (examine layout p s.cells) (λ c lag. store layout p c s ending_in Good c lag) s
+reopening layout p s = on_good (examine layout p s.cells) (λ c lag. store layout p c s ending_in read_as c lag) s
 
 -- Open, else: a first opening, whose count is 0.
 abbrev pub beginning : Layout → Places → Chip → Run Verdict
-beginning layout p s = first_opening layout p s ending_in Good 0 (pos 0)
+beginning layout p s = first_opening layout p s ending_in read_as 0 (pos 0)
 
 -- Open: refusals 1 and 2; otherwise the mark decides.
 unfoldable pub open_run : Layout → Places → Chip → Run Verdict
@@ -47,7 +45,7 @@ open_run layout p s =
 
 -- Step, from a count c with a lag that was read: store c, then store c + 1.
 abbrev pub stepping : Layout → Places → ℕ → ℤ → Chip → Run Verdict
-stepping layout p c lag s = (store layout p c s and_then store layout p (c + 1)) ending_in Good (c + 1) lag
+stepping layout p c lag s = (store layout p c s and_then store layout p (c + 1)) ending_in read_as (c + 1) lag
 
 -- Step: read c, and go on from it unless it is the last count.
 unfoldable pub step_run : Layout → Places → Chip → Run Verdict
@@ -55,7 +53,7 @@ step_run layout p s =
     on_good (chip_verdict layout p s)
     (λ c lag.
     let stepped = stepping layout p c lag s in
-    cond (c == last_count) (still (Refused LastCount) s) stepped)
+    cond (c == last_count) (still (Err LastCount) s) stepped)
     s
 
 -- the outcomes of opening and stepping, and the answer of reading, which writes nothing
@@ -82,12 +80,12 @@ part_verdict layout p cells copy =
     guarded layout p cells
     (unless (sound layout p (pointer_of (map_in layout p cells))) UnsoundMap
     (unless (nat_le 1 copy && nat_le copy layout.copies) BadCopy
-    (Good 0 (pos 0))))
+    (read_as 0 (pos 0))))
 
 -- the eleven cells of a copy, or, on a refusal, an empty part
 abbrev pub part_on : Verdict → Layout → Places → ℕ → Part
-part_on (Good count lag) layout p copy = part 0 (p.map + part_at layout (copy - 1)) (copy_cells layout)
-part_on (Refused why) layout p copy = part (refusal_of why 0 0).code 0 0
+part_on (Ok (count, lag)) layout p copy = part 0 (p.map + part_at layout (copy - 1)) (copy_cells layout)
+part_on (Err why) layout p copy = part (refusal_of why 0 0).code 0 0
 
 unfoldable pub map_part_of : Layout → Places → List ℕ → ℕ → Part
 map_part_of layout p cells copy = part_on (part_verdict layout p cells copy) layout p copy

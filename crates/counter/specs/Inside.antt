@@ -1,33 +1,31 @@
 -- What the contracts of functions inside the crate are said with. No promise of a door rests on anything here.
-use Rattle.std.specs.Prelude.{◌≡◌, ℕ, ◌+◌, ◌-◌, ◌%◌, ◌^◌, ◌<◌, ◌≤◌, Bool, true, false, cond, ◌&&◌, ◌||◌, List, [], ◌∷◌, ◌++◌, length, take, ℤ, ◌≢◌, nat_lt, slice_index}
+use Rattle.std.specs.Prelude.{◌≡◌, ℕ, ◌+◌, ◌-◌, ◌%◌, ◌<◌, ◌≤◌, Bool, true, cond, ◌&&◌, List, [], ◌∷◌, ◌++◌, length, take, ◌≢◌, nat_lt, slice_index, Option, Some, None, Result, Ok, Err}
 use Rattle.cells.specs.declared.mains.Mains.{Mains}
-use Rattle.cells.specs.declared.row.Found.{Found}
-use Rattle.cells.specs.declared.row.Found.TheVariants.{At, Nowhere}
+use Rattle.cells.specs.declared.mains.PowerLost.{PowerLost}
 use Rattle.cells.specs.declared.row.RowPut.{RowPut}
 use Rattle.cells.specs.Chip.{Chip}
-use Rattle.cells.specs.Run.{Run, Seen, seen, plus, ◌giving◌}
+use Rattle.cells.specs.Run.{Run, Seen, seen, ◌giving◌}
 use Rattle.cells.specs.Row.{put_row}
-use Rattle.cells.specs.Cut.{Says}
-use Rattle.code.specs.Readings.{is_lost}
-use Rattle.code.specs.Entries.{reading_at, twofold_at}
+use Rattle.cells.specs.Cut.{Cut.whole, Cut.lost, sight, Says}
+use Rattle.code.specs.Entries.{reading_at}
+use Rattle.counter.specs.declared.map.Kind.{Kind}
 use Rattle.counter.specs.declared.places.Places.{Places}
-use Rattle.counter.specs.declared.reading.Fault.{Fault}
-use Rattle.counter.specs.declared.reading.Fault.TheVariants.{Twofold, LostInAll}
 use Rattle.counter.specs.declared.standing.Standing.{Standing}
 use Rattle.counter.specs.declared.standing.Standing.TheVariants.{Unfit, Unmarked, Marked}
-use Rattle.counter.specs.declared.verdict.Verdict.{Verdict}
-use Rattle.counter.specs.declared.verdict.Verdict.TheVariants.{Good}
-use Rattle.counter.specs.declared.verdict.Work.{Work}
-use Rattle.counter.specs.declared.verdict.Work.TheVariants.{Done, Stopped}
-use Rattle.counter.specs.declared.store.Stored.{Stored}
+use Rattle.counter.specs.declared.opening.Takings.{Takings}
+use Rattle.counter.specs.declared.spares.Gap.{Gap}
+use Rattle.counter.specs.declared.reading.Count.{Count}
 use Rattle.counter.specs.declared.verdict.Refusal.{Refusal}
-use Rattle.counter.specs.declared.verdict.Refusal.TheVariants.{BadLength, BadPlaces, NoMark, UnsoundMap, BadCopy, TwoCodes, LostNibble, Apart, LastCount, NoSpare, MapByte, PowerLost}
+use Rattle.counter.specs.declared.store.Stored.{Stored}
+use Rattle.counter.specs.declared.verdict.Answer.{Answer}
+use Rattle.counter.specs.declared.verdict.Refusal.TheVariants.{BadLength, BadPlaces, NoSpare, PowerLost as LostPower}
 use Rattle.counter.specs.Layout.{Layout, two, slots, map_cells}
 use Rattle.counter.specs.Slots.{kind_of}
 use Rattle.counter.specs.Places.{length_good, places_good, lives_good}
 use Rattle.counter.specs.Map.{map_in, marked, offset_of, pointer_of, pointer_bytes}
-use Rattle.counter.specs.Spares.{whole_area}
-use Rattle.counter.specs.Reading.{data_at}
+use Rattle.counter.specs.Spares.{whole_area, narrow, next_of, spares_of}
+use Rattle.counter.specs.Reading.{data_at, nibble_in}
+use Rattle.counter.specs.Verdict.{Verdict, Work, refusal_of, answer_of, ending, read_as, complete}
 use Rattle.counter.specs.Store.{slot_code, mapped}
 use Rattle.counter.specs.Opening.{taken, take_from, untried}
 
@@ -58,27 +56,31 @@ listed values k = slice_index values k
 abbrev pub Reaches : List ℕ → List ℕ → Type 0
 Reaches cells map = (length map ≡ map_cells two) × ((k : ℕ) → k < slots two → pointer_of map k < length cells)
 
--- a nibble whose two copies have these entries in the table of readings has the fault
-abbrev pub amiss : Fault → ℕ → ℕ → Bool
-amiss Twofold a b = twofold_at a || twofold_at b
-amiss LostInAll a b = is_lost (reading_at a) && is_lost (reading_at b)
+-- nibble n of a copy of two, given all slots' entries in the table of readings
+unfoldable pub nibble_by : List ℕ → ℕ → ℕ → ℕ
+nibble_by entries copy n = nibble_in two (λ k. reading_at (listed entries k)) copy n
+
+-- what says something of two bytes says what the test does
+abbrev pub Answers : (ℕ → ℕ → Bool → Type 0) → (ℕ → ℕ → Bool) → Type 0
+Answers Says test = (a b : ℕ) (says : Bool) → a < 256 → b < 256 → Says a b says → says ≡ test a b
 
 -- the cells of all slots hold their codes of c
 abbrev pub Holds : Layout → Places → ℕ → List ℕ → Type 0
 Holds layout p c cells = (k : ℕ) → k < slots layout → data_at cells (map_in layout p cells) k ≡ slot_code c k
 
--- where a finding is said to be exact, and a count was read, the cells of all slots hold their codes of it
-abbrev pub ExactIf : Bool → Layout → Places → Verdict → List ℕ → Type 0
-ExactIf exact layout p verdict cells = exact ≡ true → (c : ℕ) (lag : ℤ) → verdict ≡ Good c lag → Holds layout p c cells
+-- what was found, as a verdict
+abbrev pub verdict_in : Result Count Refusal → Verdict
+verdict_in (Ok found) = read_as found.count found.lag
+verdict_in (Err why) = Err why
 
--- a piece of storing was stopped
-abbrev pub stopped : Work → Bool
-stopped Done = false
-stopped (Stopped why) = true
+-- where a count is said to be exact, the cells of all slots hold their codes of it
+abbrev pub ExactIf : Layout → Places → Result Count Refusal → List ℕ → Type 0
+ExactIf layout p (Ok found) cells = found.exact ≡ true → Holds layout p found.count cells
+ExactIf layout p (Err why) cells = Unit {0}
 
 -- how a taking ended that served so many slots
 abbrev pub served : Layout → ℕ → Work
-served layout count = cond (nat_lt count (slots layout)) (Stopped (NoSpare count)) Done
+served layout count = cond (nat_lt count (slots layout)) (Err (NoSpare count)) complete
 
 -- the bytes that hold addresses as the pointers of the slots from k on
 unfoldable pub pointer_row : List ℕ → ℕ → List ℕ
@@ -89,45 +91,47 @@ pointer_row (a ∷ rest) k = pointer_bytes (kind_of k) a ++ pointer_row rest (k 
 abbrev pub map_row : List ℕ → ℕ → Chip → Run Work
 map_row bs a s = let r = put_row bs a s in r giving mapped r.answer
 
--- where the power was lost, if that is how a piece of storing ended
-abbrev pub loss_in : Refusal → Found
-loss_in BadLength = Nowhere
-loss_in BadPlaces = Nowhere
-loss_in NoMark = Nowhere
-loss_in UnsoundMap = Nowhere
-loss_in BadCopy = Nowhere
-loss_in (TwoCodes nibble) = Nowhere
-loss_in (LostNibble nibble) = Nowhere
-loss_in (Apart lag) = Nowhere
-loss_in LastCount = Nowhere
-loss_in (NoSpare slot) = Nowhere
-loss_in (MapByte address) = Nowhere
-loss_in (PowerLost address) = At address
-
-abbrev pub loss_of : Work → Found
-loss_of Done = Nowhere
-loss_of (Stopped why) = loss_in why
-
--- what a function says of a piece of storing, which left such a chip
+-- what a function shows of a piece of storing, which left such a chip
 abbrev pub told : Stored → Chip → Seen Work
 told done t = seen done.work done.writes done.tried t
 
--- and that it is so, on mains that can be lost
-abbrev pub Works : Stored → Chip → Mains → Run Work → Chip → Type 0
-Works done t mains r s = Says (loss_of done.work) (told done t) mains.power mains.torn r s
+-- a piece of storing behind work that took so many writes and tries
+abbrev pub behind : ℕ → ℕ → Stored → Stored
+behind writes tried done = record { work = done.work; writes = writes + done.writes; tried = tried + done.tried }
 
--- a piece of storing behind work that took so many writes and tries, where the sums are numbers of 64 bits
-pub record Behind (writes tried : ℕ) (stored r : Stored) : Type 0 where
-  pub same : r.work ≡ stored.work
-  pub sum : writes + stored.writes < 2 ^ 64 → tried + stored.tried < 2 ^ 64 → (t : Chip) → told r t ≡ plus writes tried (told stored t)
+-- what a function says of a piece of storing on mains that can be lost
+abbrev pub Works : Result Stored PowerLost → Chip → Mains → Run Work → Chip → Type 0
+Works done t mains r s = Says (sight told done t) mains.power mains.torn r s
 
--- what a row of map bytes came to, as a piece of storing
-pub record Mapped (row : RowPut) (r : Stored) : Type 0 where
-  pub lost : (a : ℕ) → row.lost ≡ At a → r.work ≡ Stopped (PowerLost a)
-  pub whole : row.lost ≡ Nowhere → (t : Chip) → told r t ≡ seen (mapped row.failed) row.writes 0 t
+-- a row of map bytes, as a piece of storing
+abbrev pub mapped_row : RowPut → Stored
+mapped_row row = record { work = mapped row.failed; writes = row.writes; tried = 0 }
+
+-- an address is the next of a kind that a gap leaves, and this is the gap without it
+pub record Next (kind : Kind) (g : Gap) (a : ℕ) (left : Gap) : Type 0 where
+  pub some : 0 < spares_of kind g
+  pub here : a ≡ next_of kind g
+  pub leaves : left ≡ narrow kind a g
+
+-- it is given, or there is none
+abbrev pub Offers : Kind → Gap → Option (ℕ × Gap) → Type 0
+Offers kind g (Some (a, left)) = Next kind g a left
+Offers kind g None = spares_of kind g ≡ 0
 
 -- what a taking says that served so many slots: the bytes that hold the addresses taken as pointers, and the rest
-pub record Took (layout : Layout) (p : Places) (where-lost : Found) (count : ℕ) (bytes : List ℕ) (writes : ℕ) (t : Chip) (mains : Mains) (s : Chip) : Type 0 where
+pub record Took (layout : Layout) (p : Places) (takings : Takings) (t : Chip) (mains : Mains) (s : Chip) : Type 0 where
+  pub few : takings.count ≤ slots layout
+  pub size : length takings.bytes ≡ 33
   pub addresses : List ℕ
-  pub row : take (offset_of count - 2) bytes ≡ pointer_row addresses 0
-  pub says : Says where-lost (seen (taken (served layout count) addresses) writes 0 t) mains.power mains.torn (untried (take_from (slots layout) 0 (whole_area p) s)) s
+  pub row : take (offset_of takings.count - 2) takings.bytes ≡ pointer_row addresses 0
+  pub says : Says (whole (seen (taken (served layout takings.count) addresses) takings.writes 0 t)) mains.power mains.torn (untried (take_from (slots layout) 0 (whole_area p) s)) s
+
+-- or that the power was lost in it
+abbrev pub Takes : Layout → Places → Result Takings PowerLost → Chip → Mains → Chip → Type 0
+Takes layout p (Ok takings) t mains s = Took layout p takings t mains s
+Takes layout p (Err loss) t mains s = Says (lost loss.at t) mains.power mains.torn (untried (take_from (slots layout) 0 (whole_area p) s)) s
+
+-- the answer of a call that ends so when its storing is done, or that lost its power in it
+abbrev pub finish : Verdict → Result Stored PowerLost → Answer
+finish v (Ok done) = answer_of (ending v done.work) done.writes done.tried
+finish v (Err loss) = refusal_of (LostPower loss.at) 0 0

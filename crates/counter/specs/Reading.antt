@@ -1,15 +1,12 @@
 -- Reading (document 01, "Reading" and the table of refusals).
-use Rattle.std.specs.Prelude.{ℕ, zero, suc, ◌+◌, ◌-◌, ◌*◌, Bool, true, false, cond, List, length, ℤ, pos, negsuc, ◌-ℤ◌, nat_le, slice_index}
+use Rattle.counter.specs.Verdict.{Verdict, read_as}
+use Rattle.std.specs.Prelude.{ℕ, zero, suc, ◌+◌, ◌-◌, ◌*◌, Bool, true, false, cond, List, length, ℤ, pos, negsuc, ◌-ℤ◌, nat_le, slice_index, Option, Some, None, Err}
 use Rattle.code.specs.declared.reading.Reading.{Reading}
 use Rattle.code.specs.Readings.{reading_of, twofold, is_lost, nibble_read}
 use Rattle.code.specs.Gray.{count_of}
 use Rattle.code.specs.Nibbles.{word_of}
 use Rattle.code.specs.Tabulate.{tabulate}
-use Rattle.cells.specs.declared.row.Found.{Found}
-use Rattle.cells.specs.declared.row.Found.TheVariants.{At, Nowhere}
 use Rattle.counter.specs.declared.places.Places.{Places}
-use Rattle.counter.specs.declared.verdict.Verdict.{Verdict}
-use Rattle.counter.specs.declared.verdict.Verdict.TheVariants.{Good, Refused}
 use Rattle.counter.specs.declared.verdict.Refusal.{Refusal}
 use Rattle.counter.specs.declared.verdict.Refusal.TheVariants.{BadLength, BadPlaces, NoMark, UnsoundMap, TwoCodes, LostNibble, Apart}
 use Rattle.counter.specs.Layout.{Layout}
@@ -47,7 +44,7 @@ close (negsuc n) = false
 
 -- what the counts of the first and the last copy decide; lag is the signed number c1 - c2
 unfoldable pub decide : ℕ → ℕ → Verdict
-decide c1 c2 = let lag = pos c1 -ℤ pos c2 in cond (close lag) (Good c1 lag) (Refused (Apart lag))
+decide c1 c2 = let lag = pos c1 -ℤ pos c2 in cond (close lag) (read_as c1 lag) (Err (Apart lag))
 
 -- some copy holds a byte one bit from two codes at nibble n
 abbrev pub some_twofold : Layout → (ℕ → ℕ) → ℕ → Bool
@@ -60,12 +57,12 @@ lost_at layout reading n = every layout.copies (λ copy. is_lost (reading (8 * c
 -- refused, unless the test holds
 abbrev pub unless : Bool → Refusal → Verdict → Verdict
 unless true why rest = rest
-unless false why rest = Refused why
+unless false why rest = Err why
 
 -- refused for what was found, if anything was
-abbrev pub on_found : Found → (ℕ → Refusal) → Verdict → Verdict
-on_found (At n) why rest = Refused (why n)
-on_found Nowhere why rest = rest
+abbrev pub on_found : Option ℕ → (ℕ → Refusal) → Verdict → Verdict
+on_found (Some n) why rest = Err (why n)
+on_found None why rest = rest
 
 -- what the bytes of the slots come to: refusals 10, 5 and 6, or the count
 unfoldable pub weigh : Layout → (ℕ → ℕ) → Verdict

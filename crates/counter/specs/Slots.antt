@@ -1,7 +1,5 @@
 -- The kind of a slot, and tests over a range of numbers.
-use Rattle.std.specs.Prelude.{ℕ, zero, suc, ◌+◌, ◌%◌, Bool, true, false, cond, ◌&&◌, ◌||◌, nat_lt}
-use Rattle.cells.specs.declared.row.Found.{Found}
-use Rattle.cells.specs.declared.row.Found.TheVariants.{At, Nowhere}
+use Rattle.std.specs.Prelude.{ℕ, zero, suc, ◌+◌, ◌%◌, Bool, true, false, cond, ◌&&◌, ◌||◌, nat_lt, Option, Some, None}
 use Rattle.counter.specs.declared.map.Kind.{Kind}
 use Rattle.counter.specs.declared.map.Kind.TheVariants.{High, Low}
 
@@ -20,6 +18,6 @@ some zero test = false
 some (suc n) test = some n test || test n
 
 -- the lowest of the n numbers from k on of which the test holds
-unfoldable pub lowest : ℕ → ℕ → (ℕ → Bool) → Found
-lowest zero k test = Nowhere
-lowest (suc n) k test = cond (test k) (At k) (lowest n (k + 1) test)
+unfoldable pub lowest : ℕ → ℕ → (ℕ → Bool) → Option ℕ
+lowest zero k test = None
+lowest (suc n) k test = cond (test k) (Some k) (lowest n (k + 1) test)

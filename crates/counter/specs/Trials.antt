@@ -4,10 +4,9 @@ use Rattle.cells.specs.Chip.{Chip}
 use Rattle.cells.specs.Cut.{Cut, Cut.whole, Cut.lost, cut}
 use Rattle.counter.specs.declared.places.Places.{Places}
 use Rattle.counter.specs.declared.verdict.Answer.{Answer}
-use Rattle.counter.specs.declared.verdict.Verdict.{Verdict}
 use Rattle.counter.specs.declared.verdict.Refusal.TheVariants.{PowerLost}
 use Rattle.counter.specs.Layout.{Layout, two}
-use Rattle.counter.specs.Verdict.{Outcome, outcome, refusal_of, answer_of}
+use Rattle.counter.specs.Verdict.{Outcome, outcome, refusal_of, answer_of, Verdict}
 use Rattle.counter.specs.Doors.{open_run, step_run}
 
 -- what a call gives that may be cut: its own answer, or refusal 11, with the cells as written so far

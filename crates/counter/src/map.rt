@@ -2,20 +2,31 @@
 // and its pointers. Slot k stands for nibble k % 8 of copy k / 8.
 ghost use Rattle.std.specs.Prelude.{◌≡◌, ℕ, ◌+◌, ◌/◌, ◌%◌, ◌<◌, ◌≤◌, length, take, drop, slice_index};
 ghost use Rattle.counter.specs.Layout.{two, slots, map_cells};
+ghost use Rattle.counter.specs.Slots.{kind_of};
 ghost use Rattle.counter.specs.Map.{marked, part_at, offset_of, pointer_of};
 
 use super::layout::Layout;
-use code::table::wide;
+use std::array;
 
 // High cells hold nibbles 3 to 7, Low cells nibbles 0 to 2.
-#[derive(Clone, Copy)]
+#[derive(Clone, Copy, Debug, PartialEq, Eq)]
 pub enum Kind {
     High,
     Low,
 }
 
+impl Kind {
+    // The kind of a slot.
+    #[tactic(auto, unfolding(crate::specs::Slots::kind_of))]
+    pub(crate) fn of(slot: usize) -> Kind
+        ensures { result ≡ kind_of slot }
+    {
+        if slot % 8 < 3 { Kind::Low } else { Kind::High }
+    }
+}
+
 // A map, by its place in the image.
-#[derive(Clone, Copy)]
+#[derive(Clone, Copy, Debug, PartialEq, Eq)]
 pub struct Map {
     pub place: usize,
 }
@@ -42,13 +53,12 @@ impl Map {
     }
 
     // The map's cells, as a part of the image.
-    pub(crate) fn cells(self, image: &[u8]) -> &[u8]
+    pub(crate) fn cells(self, image: &[u8]) -> &[u8; Map::SIZE]
         requires { self.place + map_cells two ≤ length image.now }
         ensures { result.now ≡ take (map_cells two) (drop self.place image.now) }
     {
-        let from = self.place;
-        let to = from + Map::SIZE;
-        &image[from..to]
+        let to = self.place + Map::SIZE;
+        image[self.place..to].as_array().unwrap()
     }
 
     // The cells of a map of any layout.
@@ -63,17 +73,11 @@ impl Map {
 }
 
 // Whether both bytes of the mark are there.
-pub(crate) fn is_marked(map: &[u8]) -> bool
-    requires { length map.now ≡ map_cells two }
+#[tactic(auto, unfolding(crate::specs::Map::marked))]
+pub(crate) fn is_marked(map: &[u8; Map::SIZE]) -> bool
     ensures { result ≡ marked map.now }
 {
-    if map[0] != Map::MARK_FIRST {
-        return false;
-    }
-    if map[1] != Map::MARK_SECOND {
-        return false;
-    }
-    true
+    map[0] == Map::MARK_FIRST && map[1] == Map::MARK_SECOND
 }
 
 // Where a slot's pointer starts in the map.
@@ -83,35 +87,30 @@ pub(crate) fn offset_of(slot: usize) -> usize
 {
     let nibble = slot % 8;
     let copy = Map::FIRST_COPY + Map::COPY_SIZE * (slot / 8);
-    if nibble < 3 {
-        return copy + 2 * nibble;
+    match Kind::of(slot) {
+        Kind::Low => copy + 2 * nibble,
+        Kind::High => copy + (nibble + 3),
     }
-    copy + (nibble + 3)
 }
 
-// A slot's pointer: two bytes, low byte first, for a Low one, and one for a High one.
+// A slot's pointer: two bytes, low byte first, for a Low one, and one for a High one. Each arm works out where it starts,
+// so that the compiler tests the slot's kind once.
 pub(crate) fn pointer_of(map: &[u8], slot: usize) -> usize
     requires { (slot < 4096) × (part_at two (slot / 8 + 1) ≤ length map.now) }
     ensures { (result ≡ pointer_of map.now slot) × (result < 65536) × (3 ≤ slot % 8 → result < 256) }
 {
-    if slot % 8 < 3 {
-        let at = offset_of(slot);
-        return wide(map[at]) + 256 * wide(map[at + 1]);
+    match Kind::of(slot) {
+        Kind::Low => {
+            let at = offset_of(slot);
+            usize::from(map[at]) + 256 * usize::from(map[at + 1])
+        }
+        Kind::High => usize::from(map[offset_of(slot)]),
     }
-    let at = offset_of(slot);
-    wide(map[at])
 }
 
 // The pointers of all slots, for a test that reads each many times.
-pub(crate) fn pointers_of(map: &[u8]) -> [usize; 16]
-    requires { length map.now ≡ map_cells two }
+pub(crate) fn pointers_of(map: &[u8; Map::SIZE]) -> [usize; Map::SLOTS]
     ensures { (k : ℕ) → k < slots two → slice_index result k ≡ pointer_of map.now k }
 {
-    let mut pointers = [0usize; 16];
-    let mut slot = 0;
-    while slot < Map::SLOTS {
-        pointers[slot] = pointer_of(map, slot);
-        slot += 1;
-    }
-    pointers
+    array::from_fn(|slot| pointer_of(map, slot))
 }

@@ -5,97 +5,112 @@ ghost use Rattle.cells.specs.Chip.{chip};
 ghost use Rattle.counter.specs.Layout.{slots, map_cells};
 ghost use Rattle.counter.specs.Verdict.{◌and_then◌};
 ghost use Rattle.counter.specs.Opening.{put_mark, first_opening};
-ghost use Rattle.counter.specs.Inside.{fitted, map_row, Took, Works};
+ghost use Rattle.counter.specs.Inside.{fitted, map_row, Offers, Takes, Works};
 
 use super::layout::Layout;
-use super::map::Map;
+use super::map::{Kind, Map};
 use super::places::Places;
-use super::store::{Stored, behind, cut_at, is_stopped, mapped};
-use super::verdict::{Refusal, Work};
-use cells::mains::{Mains, put_on};
-use cells::row::{Found, put_row};
+use super::spares::Gap;
+use super::store::{Stored, mapped};
+use super::verdict::Refusal;
+use cells::mains::{Mains, PowerLost, put_on};
+use cells::row::put_row;
 use code::codes::code_of;
 
-// Where the power was lost, if it was; else the bytes that hold the addresses taken as pointers, for how many slots they are, and
-// the writes asked for.
+// The bytes that hold the addresses taken as pointers, for how many slots they are, and the writes asked for.
 #[derive(Clone, Copy)]
-struct Takings {
-    lost: Found,
-    bytes: [u8; 33],
-    count: usize,
-    writes: usize,
+pub struct Takings {
+    pub bytes: [u8; 33],
+    pub count: usize,
+    pub writes: usize,
+}
+
+// The next address of a kind that a gap leaves, if there is one, and the gap without it: `Gap`'s `spares`, `next` and `narrowed` in one,
+// since by these one after another a first opening takes a sixth more instructions than it may.
+fn next_spare(kind: Kind, gap: Gap) -> Option<(usize, Gap)>
+    requires { (gap.high ≤ 256) × (gap.high ≤ gap.low) }
+    ensures { Offers kind gap result }
+{
+    let Gap { high, low } = gap;
+    if high == low {
+        return None;
+    }
+    match kind {
+        Kind::Low => {
+            let at = low - 1;
+            Some((at, Gap { high, low: at }))
+        }
+        Kind::High => {
+            if high == 256 {
+                return None;
+            }
+            let left = Gap {
+                high: high + 1,
+                low,
+            };
+            Some((high, left))
+        }
+    }
 }
 
 // 80 put for every slot, each at the next address of its kind that holds it, up to the first slot for which no cell is
-// left. An address that does not hold it is passed over, as if it were taken. `high` is the next High address and `low`
-// the lowest Low pointer, as in a gap; `end` is where the next slot's pointer goes.
+// left. An address that does not hold it is passed over, as if it were taken. `end` is where the next slot's pointer goes.
+// A slot that found no cell goes round again, which a `for` over the slots could not.
 fn take_addresses(
     image: &mut [u8],
     lives: &mut [u32],
     p: Places,
     layout: Layout,
     mains: Mains,
-) -> Takings
+) -> Result<Takings, PowerLost>
     requires { (fitted layout p (chip image.old lives.old) ≡ true) × (layout.copies ≤ 3) }
-    ensures { (result.count ≤ slots layout) × Took layout p result.lost result.count result.bytes result.writes (chip image.new lives.new) mains (chip image.old lives.old) }
+    ensures { Takes layout p result (chip image.new lives.new) mains (chip image.old lives.old) }
 {
     let slots = 8 * layout.copies;
     let mut bytes = [0u8; 33];
     let mut end = 0;
-    let mut high = p.start;
-    let mut low = p.end + 1;
+    let mut gap = Gap::whole(p);
     let mut writes = 0;
     let mut slot = 0;
     while slot < slots {
-        if high == low {
+        let kind = Kind::of(slot);
+        let Some((at, left)) = next_spare(kind, gap) else {
             break;
-        }
-        let mut at = high;
-        if slot % 8 < 3 {
-            low -= 1;
-            at = low;
-        } else {
-            if high == 256 {
-                break;
-            }
-            high += 1;
-        }
-        let done = put_on(image, lives, at, code_of(0), mains.behind(writes));
-        let lost = done.lost;
-        if let Found::At(_) = lost {
-            return Takings {
-                lost,
-                bytes,
-                count: slot,
-                writes,
-            };
-        }
+        };
+        gap = left;
+        let done = put_on(image, lives, at, code_of(0), mains.behind(writes))?;
         writes += done.writes;
         if done.held {
             bytes[end] = (at % 256) as u8;
             end += 1;
-            if slot % 8 < 3 {
+            if let Kind::Low = kind {
                 bytes[end] = (at / 256) as u8;
                 end += 1;
             }
             slot += 1;
         }
     }
-    Takings {
-        lost: Found::Nowhere,
+    Ok(Takings {
         bytes,
         count: slot,
         writes,
-    }
+    })
 }
 
 // The mark, A5 and then 5A.
-fn put_mark(image: &mut [u8], lives: &mut [u32], p: Places, layout: Layout, mains: Mains) -> Stored
+fn put_mark(
+    image: &mut [u8],
+    lives: &mut [u32],
+    p: Places,
+    layout: Layout,
+    mains: Mains,
+) -> Result<Stored, PowerLost>
     requires { fitted layout p (chip image.old lives.old) ≡ true }
     ensures { Works result (chip image.new lives.new) mains (put_mark layout p (chip image.old lives.old)) (chip image.old lives.old) }
 {
     let mark = [Map::MARK_FIRST, Map::MARK_SECOND];
-    mapped(put_row(image, lives, p.map, &mark, mains))
+    let row = put_row(image, lives, p.map, &mark, mains)?;
+    Ok(mapped(row))
 }
 
 // The map: the bytes of all pointers, as one row, and then the mark.
@@ -106,19 +121,18 @@ fn put_map(
     layout: Layout,
     bytes: &[u8],
     mains: Mains,
-) -> Stored
+) -> Result<Stored, PowerLost>
     requires { (fitted layout p (chip image.old lives.old) ≡ true) × (2 + length bytes.now ≡ map_cells layout) }
     ensures { Works result (chip image.new lives.new) mains (map_row bytes.now (p.map + 2) (chip image.old lives.old) and_then put_mark layout p) (chip image.old lives.old) }
 {
-    let pointers = mapped(put_row(image, lives, p.map + Map::FIRST_COPY, bytes, mains));
-    if is_stopped(pointers) {
-        return pointers;
+    let row = put_row(image, lives, p.map + Map::FIRST_COPY, bytes, mains)?;
+    let pointers = mapped(row);
+    if pointers.work.is_err() {
+        return Ok(pointers);
     }
-    behind(
-        pointers.writes,
-        pointers.tried,
-        put_mark(image, lives, p, layout, mains.behind(pointers.writes)),
-    )
+    let left = mains.behind(pointers.writes);
+    let marked = put_mark(image, lives, p, layout, left)?;
+    Ok(marked.behind(pointers.writes, pointers.tried))
 }
 
 // All of it, up to what stops it.
@@ -128,35 +142,22 @@ pub(crate) fn open_first(
     p: Places,
     layout: Layout,
     mains: Mains,
-) -> Stored
+) -> Result<Stored, PowerLost>
     requires { (fitted layout p (chip image.old lives.old) ≡ true) × (layout.copies ≤ 3) }
     ensures { Works result (chip image.new lives.new) mains (first_opening layout p (chip image.old lives.old)) (chip image.old lives.old) }
 {
-    let takings = take_addresses(image, lives, p, layout, mains);
-    let lost = takings.lost;
-    if let Found::At(address) = lost {
-        return cut_at(address);
-    }
+    let takings = take_addresses(image, lives, p, layout, mains)?;
     let count = takings.count;
     if count < 8 * layout.copies {
-        return Stored {
-            work: Work::Stopped(Refusal::NoSpare(count)),
+        return Ok(Stored {
+            work: Err(Refusal::NoSpare(count)),
             writes: takings.writes,
             tried: 0,
-        };
+        });
     }
     let bytes = takings.bytes;
     let end = Map::COPY_SIZE * layout.copies;
-    behind(
-        takings.writes,
-        0,
-        put_map(
-            image,
-            lives,
-            p,
-            layout,
-            &bytes[0..end],
-            mains.behind(takings.writes),
-        ),
-    )
+    let left = mains.behind(takings.writes);
+    let mapped = put_map(image, lives, p, layout, &bytes[..end], left)?;
+    Ok(mapped.behind(takings.writes, 0))
 }

@@ -6,24 +6,28 @@ ghost use Rattle.counter.specs.Places.{length_good, places_good};
 use super::map::Map;
 
 // Where the map starts, and the area's first and last cell.
-#[derive(Clone, Copy)]
+#[derive(Clone, Copy, Debug, PartialEq, Eq)]
 pub struct Places {
     pub map: usize,
     pub start: usize,
     pub end: usize,
 }
 
+impl Places {
+    // Setting A, that of the control box (document 01, "Measured on the bench").
+    pub const SETTING_A: Places = Places {
+        map: 1,
+        start: 25,
+        end: 128,
+    };
+}
+
 // Whether an image of n cells is neither too short nor too long.
+#[tactic(auto, unfolding(crate::specs::Places::length_good))]
 pub(crate) fn length_good(n: usize) -> bool
     ensures { result ≡ length_good two n }
 {
-    if n < 41 {
-        return false;
-    }
-    if 4096 < n {
-        return false;
-    }
-    true
+    (41..=4096).contains(&n)
 }
 
 // Whether the place settings are good for an image of n cells. No sum can wrap. A map below the area is in the image
@@ -31,35 +35,19 @@ pub(crate) fn length_good(n: usize) -> bool
 pub(crate) fn places_good(n: usize, p: Places) -> bool
     ensures { result ≡ places_good two n p }
 {
-    if p.start < 1 {
-        return false;
-    }
-    if 246 < p.start {
-        return false;
-    }
-    if n <= p.end {
-        return false;
-    }
-    if p.end < p.start + (Map::SLOTS - 1) {
-        return false;
-    }
-    if p.map < 1 {
+    if p.start < 1
+        || 246 < p.start
+        || n <= p.end
+        || p.end < p.start + (Map::SLOTS - 1)
+        || p.map < 1
+    {
         return false;
     }
     if p.map <= p.start {
-        if p.start - p.map < Map::SIZE {
-            return false;
-        }
-        return true;
+        return Map::SIZE <= p.start - p.map;
     }
-    if p.map <= p.end {
+    if p.map <= p.end || n < Map::SIZE {
         return false;
     }
-    if n < Map::SIZE {
-        return false;
-    }
-    if n - Map::SIZE < p.map {
-        return false;
-    }
-    true
+    p.map <= n - Map::SIZE
 }

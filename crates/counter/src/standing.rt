@@ -21,13 +21,12 @@ pub(crate) fn standing_of(image: &[u8], p: Places) -> Standing
     ensures { result ≡ standing_of two p image.now }
 {
     if !length_good(image.len()) {
-        return Standing::Unfit(Refusal::BadLength);
+        Standing::Unfit(Refusal::BadLength)
+    } else if !places_good(image.len(), p) {
+        Standing::Unfit(Refusal::BadPlaces)
+    } else if is_marked(Map::at(p.map).cells(image)) {
+        Standing::Marked
+    } else {
+        Standing::Unmarked
     }
-    if !places_good(image.len(), p) {
-        return Standing::Unfit(Refusal::BadPlaces);
-    }
-    if is_marked(Map::at(p.map).cells(image)) {
-        return Standing::Marked;
-    }
-    Standing::Unmarked
 }

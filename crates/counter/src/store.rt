@@ -1,10 +1,10 @@
 // Storing a count (document 01, "Storing, opening, stepping"). The functions that store a slot or a count ask for a chip with
 // its lives, good settings and a sound map; the doors see to that. First comes the plain way, for any layout and on mains that can
 // be lost (document 02, P6); behind it the quick ways of two copies, which are whole.
-ghost use Rattle.std.specs.Prelude.{◌≡◌, ◌+◌, ◌<◌, ◌≤◌, true, length};
+ghost use Rattle.std.specs.Prelude.{◌≡◌, ◌+◌, ◌^◌, ◌<◌, ◌≤◌, true, length};
 ghost use Rattle.cells.specs.Chip.{chip};
 ghost use Rattle.cells.specs.Run.{seen, view, plus};
-ghost use Rattle.cells.specs.Cut.{Says};
+ghost use Rattle.cells.specs.Cut.{Says, sight, walk_shows};
 ghost use Rattle.counter.specs.Layout.{two, slots};
 ghost use Rattle.counter.specs.Slots.{kind_of};
 ghost use Rattle.counter.specs.Places.{places, places_good};
@@ -12,20 +12,19 @@ ghost use Rattle.counter.specs.Map.{map_in, pointer_of, sound, reachable};
 ghost use Rattle.counter.specs.Verdict.{◌and_then◌};
 ghost use Rattle.counter.specs.Store.{put_pointer, try_spares, move_slot, store_slot, store};
 ghost use Rattle.counter.specs.Doors.{last_count};
-ghost use Rattle.counter.specs.Inside.{fitted, stopped, Holds, Works, Behind, Mapped};
+ghost use Rattle.counter.specs.Inside.{fitted, behind, mapped_row, Holds, Works};
 
 use super::layout::{Layout, TWO};
-use super::map::{Map, offset_of, pointer_of};
+use super::map::{Kind, Map, offset_of, pointer_of};
 use super::places::Places;
-use super::spares::{Gap, gap_of, next_of, spares_of, way_of};
+use super::spares::{Gap, gap_of};
 use super::verdict::{Refusal, Work};
-use cells::mains::{Mains, put_on};
+use cells::mains::{Mains, PowerLost, put_on};
 use cells::put::put;
-use cells::row::{Found, RowPut, Walked, put_row, walk};
+use cells::row::{RowPut, Walked, put_row, walk};
 use code::codes::code_of;
 use code::gray::{changed_bit, gray_of};
 use code::nibbles::nibble_of;
-use std::num::wrapping_add_usize;
 
 // What a piece of storing came to: how it ended, the writes asked for, and the spares tried.
 #[derive(Clone, Copy)]
@@ -35,62 +34,32 @@ pub struct Stored {
     pub tried: usize,
 }
 
-// A piece of storing behind work that took so many writes and tries. Of storing that was cut these are of no account, so that the
-// sums may wrap.
-pub(crate) fn behind(writes: usize, tried: usize, stored: Stored) -> Stored
-    ensures { Behind writes tried stored result }
+impl Stored {
+    // The same behind work that took so many writes and tries.
+    pub(crate) fn behind(self, writes: usize, tried: usize) -> Stored
+        requires { (writes + self.writes < 2 ^ 64) × (tried + self.tried < 2 ^ 64) }
+        ensures { result ≡ behind writes tried self }
+    {
+        Stored {
+            work: self.work,
+            writes: writes + self.writes,
+            tried: tried + self.tried,
+        }
+    }
+}
+
+// What a row of map bytes came to: done, or stopped at the byte whose put failed.
+pub(crate) fn mapped(row: RowPut) -> Stored
+    ensures { result ≡ mapped_row row }
 {
-    let work = stored.work;
+    let work = match row.failed {
+        None => Ok(()),
+        Some(address) => Err(Refusal::MapByte(address)),
+    };
     Stored {
         work,
-        writes: wrapping_add_usize(writes, stored.writes),
-        tried: wrapping_add_usize(tried, stored.tried),
-    }
-}
-
-// Whether a piece of storing was stopped.
-pub(crate) fn is_stopped(stored: Stored) -> bool
-    ensures { result ≡ stopped stored.work }
-{
-    let work = stored.work;
-    match work {
-        Work::Done => false,
-        Work::Stopped(_) => true,
-    }
-}
-
-// Storing that ended where the power was lost.
-pub(crate) fn cut_at(address: usize) -> Stored
-    ensures { result.work ≡ Work.Stopped (Refusal.PowerLost address) }
-{
-    Stored {
-        work: Work::Stopped(Refusal::PowerLost(address)),
-        writes: 0,
+        writes: row.writes,
         tried: 0,
-    }
-}
-
-// What a row of map bytes came to: done, or stopped at the byte whose put failed, or where the power was lost.
-pub(crate) fn mapped(row: RowPut) -> Stored
-    ensures { Mapped row result }
-{
-    let lost = row.lost;
-    let failed = row.failed;
-    let writes = row.writes;
-    if let Found::At(address) = lost {
-        return cut_at(address);
-    }
-    match failed {
-        Found::Nowhere => Stored {
-            work: Work::Done,
-            writes,
-            tried: 0,
-        },
-        Found::At(address) => Stored {
-            work: Work::Stopped(Refusal::MapByte(address)),
-            writes,
-            tried: 0,
-        },
     }
 }
 
@@ -103,18 +72,22 @@ fn put_pointer(
     slot: usize,
     a: usize,
     mains: Mains,
-) -> Stored
+) -> Result<Stored, PowerLost>
     requires { (fitted layout p (chip image.old lives.old) ≡ true) × (slot < slots layout) × (a < 65536) × (reachable (kind_of slot) a ≡ true) }
     ensures { Works result (chip image.new lives.new) mains (put_pointer layout p slot a (chip image.old lives.old)) (chip image.old lives.old) }
 {
     let at = p.map + offset_of(slot);
     let low = (a % 256) as u8;
-    if slot % 8 < 3 {
-        let bytes = [low, (a / 256) as u8];
-        return mapped(put_row(image, lives, at, &bytes, mains));
+    match Kind::of(slot) {
+        Kind::Low => {
+            let row = put_row(image, lives, at, &[low, (a / 256) as u8], mains)?;
+            Ok(mapped(row))
+        }
+        Kind::High => {
+            let row = put_row(image, lives, at, &[low], mains)?;
+            Ok(mapped(row))
+        }
     }
-    let byte = [low];
-    mapped(put_row(image, lives, at, &byte, mains))
 }
 
 // The spares of a slot's kind that a gap leaves, tried one after another until one holds the byte.
@@ -125,16 +98,17 @@ fn try_spares(
     gap: Gap,
     byte: u8,
     mains: Mains,
-) -> Walked
+) -> Result<Walked, PowerLost>
     requires { (length lives.old ≡ length image.old) × (1 ≤ gap.high) × (gap.high ≤ 256) × (gap.high ≤ gap.low) × (gap.low ≤ length image.old) }
-    ensures { Says result.lost (seen result.found result.writes result.tried (chip image.new lives.new)) mains.power mains.torn (try_spares slot gap byte (chip image.old lives.old)) (chip image.old lives.old) }
+    ensures { Says (sight walk_shows result (chip image.new lives.new)) mains.power mains.torn (try_spares slot gap byte (chip image.old lives.old)) (chip image.old lives.old) }
 {
+    let kind = Kind::of(slot);
     walk(
         image,
         lives,
-        spares_of(slot, gap),
-        way_of(slot),
-        next_of(slot, gap),
+        gap.spares(kind),
+        kind.way(),
+        gap.next(kind),
         byte,
         mains,
     )
@@ -149,37 +123,22 @@ fn move_slot(
     slot: usize,
     byte: u8,
     mains: Mains,
-) -> Stored
+) -> Result<Stored, PowerLost>
     requires { (fitted layout p (chip image.old lives.old) ≡ true) × (sound layout p (pointer_of (map_in layout p image.old)) ≡ true) × (slot < slots layout) }
     ensures { Works result (chip image.new lives.new) mains (move_slot layout p slot byte (chip image.old lives.old)) (chip image.old lives.old) }
 {
     let gap = gap_of(Map::at(p.map).cells_for(layout, image), p, layout);
-    let walked = try_spares(image, lives, slot, gap, byte, mains);
-    let lost = walked.lost;
-    if let Found::At(address) = lost {
-        return cut_at(address);
-    }
-    let found = walked.found;
-    match found {
-        Found::Nowhere => Stored {
-            work: Work::Stopped(Refusal::NoSpare(slot)),
+    let walked = try_spares(image, lives, slot, gap, byte, mains)?;
+    let Some(spare) = walked.found else {
+        return Ok(Stored {
+            work: Err(Refusal::NoSpare(slot)),
             writes: walked.writes,
             tried: walked.tried,
-        },
-        Found::At(a) => behind(
-            walked.writes,
-            walked.tried,
-            put_pointer(
-                image,
-                lives,
-                p,
-                layout,
-                slot,
-                a,
-                mains.behind(walked.writes),
-            ),
-        ),
-    }
+        });
+    };
+    let left = mains.behind(walked.writes);
+    let stored = put_pointer(image, lives, p, layout, slot, spare, left)?;
+    Ok(stored.behind(walked.writes, walked.tried))
 }
 
 // A byte put at a slot's cell, and moved if the put fails.
@@ -191,36 +150,22 @@ fn store_slot(
     slot: usize,
     byte: u8,
     mains: Mains,
-) -> Stored
+) -> Result<Stored, PowerLost>
     requires { (fitted layout p (chip image.old lives.old) ≡ true) × (sound layout p (pointer_of (map_in layout p image.old)) ≡ true) × (slot < slots layout) }
     ensures { Works result (chip image.new lives.new) mains (store_slot layout p slot byte (chip image.old lives.old)) (chip image.old lives.old) }
 {
     let at = pointer_of(Map::at(p.map).cells_for(layout, image), slot);
-    let done = put_on(image, lives, at, byte, mains);
-    let lost = done.lost;
-    if let Found::At(address) = lost {
-        return cut_at(address);
-    }
+    let done = put_on(image, lives, at, byte, mains)?;
     if done.held {
-        return Stored {
-            work: Work::Done,
+        return Ok(Stored {
+            work: Ok(()),
             writes: done.writes,
             tried: 0,
-        };
+        });
     }
-    behind(
-        done.writes,
-        0,
-        move_slot(
-            image,
-            lives,
-            p,
-            layout,
-            slot,
-            byte,
-            mains.behind(done.writes),
-        ),
-    )
+    let left = mains.behind(done.writes);
+    let moved = move_slot(image, lives, p, layout, slot, byte, left)?;
+    Ok(moved.behind(done.writes, 0))
 }
 
 // A count stored: copy 1, nibbles 0 to 7, then each copy behind it the same.
@@ -231,38 +176,27 @@ pub(crate) fn store_count(
     layout: Layout,
     count: u32,
     mains: Mains,
-) -> Stored
+) -> Result<Stored, PowerLost>
     requires { (fitted layout p (chip image.old lives.old) ≡ true) × (sound layout p (pointer_of (map_in layout p image.old)) ≡ true) }
     ensures { Works result (chip image.new lives.new) mains (store layout p count (chip image.old lives.old)) (chip image.old lives.old) }
 {
     let word = gray_of(count);
     let slots = 8 * layout.copies;
     let mut done = Stored {
-        work: Work::Done,
+        work: Ok(()),
         writes: 0,
         tried: 0,
     };
-    let mut slot = 0;
-    while slot < slots {
-        done = behind(
-            done.writes,
-            done.tried,
-            store_slot(
-                image,
-                lives,
-                p,
-                layout,
-                slot,
-                code_of(nibble_of(word, slot % 8)),
-                mains.behind(done.writes),
-            ),
-        );
-        if is_stopped(done) {
-            break;
+    for slot in 0..slots {
+        let byte = code_of(nibble_of(word, slot % 8));
+        let left = mains.behind(done.writes);
+        let stored = store_slot(image, lives, p, layout, slot, byte, left)?;
+        done = stored.behind(done.writes, done.tried);
+        if stored.work.is_err() {
+            return Ok(done);
         }
-        slot += 1;
     }
-    done
+    Ok(done)
 }
 
 // Two counts stored, one behind the other: the one that was read, and the next.
@@ -273,26 +207,17 @@ pub(crate) fn store_twice(
     layout: Layout,
     count: u32,
     mains: Mains,
-) -> Stored
+) -> Result<Stored, PowerLost>
     requires { (fitted layout p (chip image.old lives.old) ≡ true) × (sound layout p (pointer_of (map_in layout p image.old)) ≡ true) × (count < last_count) }
     ensures { Works result (chip image.new lives.new) mains (store layout p count (chip image.old lives.old) and_then store layout p (count + 1)) (chip image.old lives.old) }
 {
-    let settled = store_count(image, lives, p, layout, count, mains);
-    if is_stopped(settled) {
-        return settled;
+    let settled = store_count(image, lives, p, layout, count, mains)?;
+    if settled.work.is_err() {
+        return Ok(settled);
     }
-    behind(
-        settled.writes,
-        settled.tried,
-        store_count(
-            image,
-            lives,
-            p,
-            layout,
-            count + 1,
-            mains.behind(settled.writes),
-        ),
-    )
+    let left = mains.behind(settled.writes);
+    let stepped = store_count(image, lives, p, layout, count + 1, left)?;
+    Ok(stepped.behind(settled.writes, settled.tried))
 }
 
 // A byte moved behind work that took so many writes. The places come as numbers, so that the compiler lays them out for a move
@@ -315,11 +240,8 @@ fn move_behind(
         start: s,
         end: e,
     };
-    behind(
-        writes,
-        0,
-        move_slot(image, lives, p, TWO, slot, byte, Mains::steady()),
-    )
+    let moved = move_slot(image, lives, p, TWO, slot, byte, Mains::steady()).unwrap();
+    moved.behind(writes, 0)
 }
 
 // A byte put at a slot's cell, whose address is known, and moved if the put fails: behind work that took so many writes.
@@ -339,7 +261,7 @@ fn store_at(
     let asked = writes + done.writes;
     if done.held {
         return Stored {
-            work: Work::Done,
+            work: Ok(()),
             writes: asked,
             tried: 0,
         };
@@ -360,12 +282,12 @@ pub(crate) fn settle(
 {
     if exact {
         return Stored {
-            work: Work::Done,
+            work: Ok(()),
             writes: 0,
             tried: 0,
         };
     }
-    store_count(image, lives, p, TWO, count, Mains::steady())
+    store_count(image, lives, p, TWO, count, Mains::steady()).unwrap()
 }
 
 // The cells of a nibble, in copy 1 and in copy 2.
@@ -409,14 +331,11 @@ fn store_pair(image: &mut [u8], lives: &mut [u32], p: Places, nibble: usize, byt
         byte,
         taken.writes,
     );
-    if is_stopped(first) {
+    if first.work.is_err() {
         return first;
     }
-    behind(
-        first.writes,
-        first.tried,
-        store_at(image, lives, p, 8 + nibble, other, byte, 0),
-    )
+    let second = store_at(image, lives, p, 8 + nibble, other, byte, 0);
+    second.behind(first.writes, first.tried)
 }
 
 // The next count stored where all slots hold a count's codes: one nibble changes, in each copy.

@@ -4,93 +4,63 @@ ghost use Rattle.std.specs.Prelude.{◌≡◌, length};
 ghost use Rattle.cells.specs.Chip.{chip};
 ghost use Rattle.cells.specs.Cut.{cut};
 ghost use Rattle.counter.specs.Layout.{two};
-ghost use Rattle.counter.specs.Places.{places};
 ghost use Rattle.counter.specs.Verdict.{outcome};
 ghost use Rattle.counter.specs.Doors.{reopening};
 ghost use Rattle.counter.specs.Trials.{cut_outcome, TrialOpens, TrialSteps};
 ghost use Rattle.counter.specs.Inside.{standing_of};
 
-use super::doors::{LAST_COUNT, begin, finished};
+use super::doors::{LAST_COUNT, begin, finished_on};
 use super::layout::TWO;
 use super::places::Places;
 use super::reading::{examined, verdict_of};
 use super::standing::{Standing, standing_of};
 use super::store::{store_count, store_twice};
-use super::verdict::{Answer, Refusal, Verdict, refusal_of};
+use super::verdict::{Answer, Refusal, refusal_of};
 use cells::mains::Mains;
 
-// Reads the count of a marked image with good settings, and stores it anew.
+// Reads the count of a marked image with good settings, and stores it anew, by the plain way, which can be cut at any write.
 fn reopen_on(image: &mut [u8], lives: &mut [u32], p: Places, mains: Mains) -> Answer
     requires { (length lives.old ≡ length image.old) × (standing_of two p image.old ≡ Standing.Marked) }
     ensures { outcome result (chip image.new lives.new) ≡ cut_outcome (cut mains.power mains.torn (reopening two p (chip image.old lives.old)) (chip image.old lives.old)) }
 {
-    let verdict = examined(image, p).verdict;
-    match verdict {
-        Verdict::Good(count, lag) => {
-            let stored = store_count(image, lives, p, TWO, count, mains);
-            finished(Verdict::Good(count, lag), stored)
+    match examined(image, p) {
+        Ok(read) => {
+            let stored = store_count(image, lives, p, TWO, read.count, mains);
+            finished_on(Ok((read.count, read.lag)), stored)
         }
-        Verdict::Refused(why) => refusal_of(why, 0, 0),
+        Err(why) => refusal_of(why, 0, 0),
     }
 }
 
 // Opens a chip, with power for so many writes.
-pub fn trial_open(
-    image: &mut [u8],
-    lives: &mut [u32],
-    m: usize,
-    s: usize,
-    e: usize,
-    power: usize,
-    torn: u8,
-) -> Answer
-    ensures { TrialOpens (places m s e) power torn (chip image.old lives.old) result (chip image.new lives.new) }
+pub fn trial_open(image: &mut [u8], lives: &mut [u32], p: Places, mains: Mains) -> Answer
+    ensures { TrialOpens p mains.power mains.torn (chip image.old lives.old) result (chip image.new lives.new) }
 {
-    let p = Places {
-        map: m,
-        start: s,
-        end: e,
-    };
     if lives.len() != image.len() {
         return refusal_of(Refusal::BadLength, 0, 0);
     }
-    let standing = standing_of(image, p);
-    match standing {
-        Standing::Unmarked => begin(image, lives, p, Mains { power, torn }),
+    match standing_of(image, p) {
+        Standing::Unmarked => begin(image, lives, p, mains),
         Standing::Unfit(why) => refusal_of(why, 0, 0),
-        Standing::Marked => reopen_on(image, lives, p, Mains { power, torn }),
+        Standing::Marked => reopen_on(image, lives, p, mains),
     }
 }
 
 // Steps the count by one, with power for so many writes.
-pub fn trial_step(
-    image: &mut [u8],
-    lives: &mut [u32],
-    m: usize,
-    s: usize,
-    e: usize,
-    power: usize,
-    torn: u8,
-) -> Answer
-    ensures { TrialSteps (places m s e) power torn (chip image.old lives.old) result (chip image.new lives.new) }
+pub fn trial_step(image: &mut [u8], lives: &mut [u32], p: Places, mains: Mains) -> Answer
+    ensures { TrialSteps p mains.power mains.torn (chip image.old lives.old) result (chip image.new lives.new) }
 {
-    let p = Places {
-        map: m,
-        start: s,
-        end: e,
-    };
     if lives.len() != image.len() {
         return refusal_of(Refusal::BadLength, 0, 0);
     }
-    let verdict = verdict_of(image, p).verdict;
-    match verdict {
-        Verdict::Good(count, lag) => {
-            if count == LAST_COUNT {
+    match verdict_of(image, p) {
+        Ok(read) => {
+            if read.count == LAST_COUNT {
                 return refusal_of(Refusal::LastCount, 0, 0);
             }
-            let stored = store_twice(image, lives, p, TWO, count, Mains { power, torn });
-            finished(Verdict::Good(count + 1, lag), stored)
+            let stored = store_twice(image, lives, p, TWO, read.count, mains);
+            finished_on(Ok((read.count + 1, read.lag)), stored)
         }
-        Verdict::Refused(why) => refusal_of(why, 0, 0),
+        Err(why) => refusal_of(why, 0, 0),
     }
 }

@@ -27,20 +27,12 @@ pub enum Refusal {
 }
 
 // How a call ended: with a count and the lag that was read, or refused.
-#[derive(Clone, Copy)]
-pub enum Verdict {
-    Good(u32, i64),
-    Refused(Refusal),
-}
+pub type Verdict = Result<(u32, i64), Refusal>;
 
 // How a piece of storing ended.
-#[derive(Clone, Copy)]
-pub enum Work {
-    Done,
-    Stopped(Refusal),
-}
+pub type Work = Result<(), Refusal>;
 
-// What comes back from a door.
+// What comes back from a door. The code is a number, as `refusal_of` of specs, its theorems and C have it.
 #[derive(Clone, Copy)]
 pub struct Answer {
     pub code: u32,
@@ -111,7 +103,7 @@ pub(crate) fn answer_of(verdict: Verdict, writes: usize, tried: usize) -> Answer
     ensures { result ≡ answer_of verdict writes tried }
 {
     match verdict {
-        Verdict::Good(count, lag) => Answer {
+        Ok((count, lag)) => Answer {
             code: 0,
             count,
             lag,
@@ -119,6 +111,6 @@ pub(crate) fn answer_of(verdict: Verdict, writes: usize, tried: usize) -> Answer
             writes,
             tried,
         },
-        Verdict::Refused(why) => refusal_of(why, writes, tried),
+        Err(why) => refusal_of(why, writes, tried),
     }
 }

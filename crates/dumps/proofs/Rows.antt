@@ -27,10 +27,10 @@ module _ (entry : ℕ → ℕ) where
 pub next_inside : (each images done : ℕ) → done < images → done * each + each ≤ images * each
 next_inside each images done fewer = omega (arith, suc-mul done each, mul-le-mul_right each fewer)
 
-module _ (read : List ℕ → Answer) (each done : ℕ) (tray : List ℕ) {at : ℕ} {answer : Answer}
-    (place : at ≡ done * each) (answers : answer ≡ read (take (at + each - at) (drop at tray))) where
+module _ (read : List ℕ → Answer) (each done : ℕ) (tray : List ℕ) {answer : Answer}
+    (answers : answer ≡ read (take (done * each + each - done * each) (drop (done * each) tray))) where
   own : answer ≡ read (image_at each tray done)
-  own = answers ∙ rw (add-sub_cancel_left at each, place)
+  own = answers ∙ rw (add-sub_cancel_left (done * each) each)
 
   entered : (of : Answer → ℕ) (row : List ℕ) {filled_row : List ℕ} → filled_row ≡ filled (λ i. of (read (image_at each tray i))) done row
       → done < length row → set filled_row done (of answer) ≡ filled (λ i. of (read (image_at each tray i))) (done + 1) row

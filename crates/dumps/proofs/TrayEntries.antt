@@ -1,15 +1,19 @@
 -- What a caller learns from the code of a tray's answer (document 02, P7).
 --   Entries, entries_read  with 0 there are images, which make the tray's length, and the entries of each are what it alone reads as
 --   none_read              with another code there is none, if both rows have an entry for as many as a tray holds
+--   read_code, refused_code  the code is 0 where the call read the tray, and another where it refused it
 use Prim.Native.Nat.{ℕ, ◌*◌, ◌≤◌, ◌<◌}
-use mathlib.Core.Path.{◌≡◌, sym, ap, ◌∙◌}
+use mathlib.Core.Path.{◌≡◌, refl, sym, ap, ◌∙◌}
+use mathlib.Core.Bool.{true, false}
 use mathlib.Core.List.{List}
 use native.Mathlib.Decide.{dec_le}
 use native.Mathlib.Omega.{arith}
 use borrow.Author.Tests.{le-leb}
 use lib.ListN.{length, get_or}
 use Rattle.counter.specs.declared.verdict.Answer.{Answer}
-use Rattle.dumps.specs.Tray.{most_images, images_in, image_at, Outcome, outcome, tray_of}
+use Rattle.std.specs.Prelude.{Result, Ok, Err, is_err}
+use Rattle.dumps.specs.declared.tray.NotATray.{NotATray}
+use Rattle.dumps.specs.Tray.{most_images, images_in, image_at, Outcome, outcome, tray_of, tray_code}
 use Rattle.dumps.proofs.Images.{whole_images}
 use Rattle.dumps.proofs.Trays.{many, has_images, entry_alone}
 
@@ -52,3 +56,11 @@ module _ (read : List ℕ → Answer) (each : ℕ) (tray counts codes : List ℕ
         absurd (other (code_same ∙ rw (le-leb 1 n some, le-leb n (length counts) (omega arith), le-leb n (length codes) (omega arith))))
     | no none ↦ omega arith
   ]
+
+pub read_code : (r : Result Unit NotATray) → is_err r ≡ false → tray_code r ≡ 0
+read_code (Ok _) _ = refl
+read_code (Err _) other = cc
+
+pub refused_code : (r : Result Unit NotATray) → is_err r ≡ true → tray_code r ≡ 0 → ⊥
+refused_code (Ok _) other _ = cc
+refused_code (Err _) _ zero = omega (arith, zero)

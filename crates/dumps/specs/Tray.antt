@@ -1,7 +1,8 @@
 -- A tray of dumps (document 02, P7): images of equal length, one behind another, each read as if it were alone.
-use Rattle.std.specs.Prelude.{ℕ, ◌*◌, ◌/◌, ◌%◌, cond, ◌&&◌, List, ◌++◌, leb, eqb, length, take, drop}
+use Rattle.std.specs.Prelude.{ℕ, ◌*◌, ◌/◌, ◌%◌, cond, ◌&&◌, List, ◌++◌, leb, eqb, length, take, drop, Result, Ok, Err}
 use Rattle.code.specs.Tabulate.{tabulate}
 use Rattle.counter.specs.declared.verdict.Answer.{Answer}
+use Rattle.dumps.specs.declared.tray.NotATray.{NotATray}
 
 -- how many images a tray holds at most
 abbrev pub most_images : ℕ
@@ -27,6 +28,11 @@ pub record Outcome : Type 0 where
 
 abbrev pub outcome : ℕ → List ℕ → List ℕ → Outcome
 outcome code counts codes = record { code = code; counts = counts; codes = codes }
+
+-- the code of a result
+abbrev pub tray_code : Result Unit NotATray → ℕ
+tray_code (Ok _) = 0
+tray_code (Err _) = 12
 
 -- the rows filled with what reading each of n images alone answers
 abbrev pub each_read : (List ℕ → Answer) → ℕ → ℕ → List ℕ → List ℕ → List ℕ → Outcome

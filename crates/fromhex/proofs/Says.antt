@@ -1,13 +1,17 @@
 -- The line of a refusal: the place before its words, and that there is a line just where a text is refused.
 use Prim.Native.Nat.{ℕ, ◌<◌}
-use mathlib.Core.Path.{◌≡◌}
+use mathlib.Core.Path.{◌≡◌, refl}
 use mathlib.Core.Bool.{Bool, true, false, cond}
 use mathlib.Core.List.{List, [], ◌++◌}
 use native.Mathlib.Omega.{arith}
-use borrow.Author.Tests.{ne_eqb, eqb-true}
+use borrow.Author.Tests.{eqb-true}
 use lib.Dec.{eqb}
 use lib.ListN.{length, length-append}
 use Rattle.intelhex.specs.declared.Answer.{Answer}
+use Rattle.intelhex.specs.declared.Fault.{Fault}
+use Rattle.intelhex.specs.declared.Fault.TheVariants.{Malformed, Checksum, Kind, PastEnd, Twice, Missing}
+use Rattle.intelhex.specs.declared.Refusal.TheVariants.{AtLine}
+use Rattle.intelhex.specs.Doors.{number_of, refusal_told}
 use Rattle.intelhex.proofs.LineLaws.{choose}
 use Rattle.fromhex.specs.Refusals.{words_of, place_of, refusal_of}
 
@@ -43,6 +47,11 @@ unfolding refusal_of
 nothing_said a read = rw read
 
 -- where a line of the text is to blame, the words stand behind its place
-pub said_of_line : (a : Answer) → (a.code ≡ 0 → ⊥) → (a.code ≡ 7 → ⊥) → refusal_of a ≡ place_of a.line ++ words_of a.code
+pub said_of_line : (fault : Fault) (line : ℕ) → refusal_of (refusal_told (AtLine fault line)) ≡ place_of line ++ words_of (number_of fault)
 unfolding refusal_of
-said_of_line a refused sized = rw (ne_eqb a.code 0 refused, ne_eqb a.code 7 sized)
+said_of_line Malformed line = refl
+said_of_line Checksum line = refl
+said_of_line Kind line = refl
+said_of_line PastEnd line = refl
+said_of_line Twice line = refl
+said_of_line Missing line = refl

@@ -1,6 +1,6 @@
 -- The line that `fromhex` says of a text that it refuses (document 02, P2).
-use Rattle.std.specs.Prelude.{ℕ, ◌+◌, cond, List, [], ◌++◌, eqb}
-use Rattle.text.specs.Text.{decimal, bytes_of}
+use Rattle.std.specs.Prelude.{ℕ, ◌+◌, ◌≡◌, ◌<◌, cond, List, [], ◌++◌, eqb, Option, MatchOption}
+use Rattle.text.specs.Text.{decimal, bytes_of, Wrote}
 use Rattle.intelhex.specs.declared.Answer.{Answer}
 
 -- the words of each refusal, and the line's end
@@ -31,3 +31,8 @@ place_longest = 27
 
 abbrev pub longest : ℕ
 longest = place_longest + words_longest
+
+-- the line of a refusal was written at the start of a text, and its end was answered; or nothing was refused, and nothing written
+abbrev pub Said : List ℕ → Answer → Option ℕ → List ℕ → Type 0
+Said before a result after =
+    MatchOption result ((a.code ≡ 0) × (after ≡ before)) (λ end. (0 < a.code) × Wrote before 0 (refusal_of a) end after)

@@ -2,7 +2,7 @@
 ghost use Rattle.std.specs.Prelude.{◌≤◌, ◌≡◌};
 ghost use Rattle.fromhex.specs.Lengths.{too_long, with_digit, length_of};
 
-// A length that no image has, for all that are larger: so a long number does not wrap.
+// A length that no image has, for all that are larger: so a long number does not wrap. A number, as `too_long` of specs is.
 pub(crate) const TOO_LONG: usize = 4097;
 
 // A number with one digit more.
@@ -17,7 +17,7 @@ fn with_digit(n: usize, byte: u8) -> usize
     if b'9' < byte {
         return TOO_LONG;
     }
-    let more = 10 * n + (byte - b'0') as usize;
+    let more = 10 * n + usize::from(byte - b'0');
     if TOO_LONG < more {
         return TOO_LONG;
     }
@@ -29,10 +29,8 @@ pub(crate) fn asked(digits: &[u8]) -> usize
     ensures { (result ≡ length_of digits.now) × (result ≤ too_long) }
 {
     let mut n = 0;
-    let mut at = 0;
-    while at < digits.len() {
-        n = with_digit(n, digits[at]);
-        at += 1;
+    for byte in digits {
+        n = with_digit(n, *byte);
     }
     n
 }

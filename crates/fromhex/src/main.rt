@@ -7,48 +7,18 @@ mod refusals;
 
 ghost use Rattle.std.specs.Prelude.{◌≤◌, ◌≡◌, length};
 ghost use Rattle.intelhex.specs.Doors.{read_of};
-ghost use Rattle.text.specs.Text.{Wrote};
-ghost use Rattle.fromhex.specs.Refusals.{refusal_of, longest};
+ghost use Rattle.fromhex.specs.Refusals.{Said, longest};
 
+use console::read_full;
 use std::env::Env;
-use std::io::{Print, Read};
+use std::io::Print;
 
-// Reads a text into an image, writes the line that refuses it at the start of another text, and answers how long the line is: 0 where
-// nothing is refused.
-fn convert(text: &[u8], image: &mut [u8], line: &mut [u8]) -> usize
+// Reads a text into an image, writes the line that refuses it, if one does, at the start of another text, and answers how long the line is.
+fn convert(text: &[u8], image: &mut [u8], line: &mut [u8]) -> Option<usize>
     requires { longest ≤ length line.old }
-    ensures { (image.new ≡ (read_of text.now image.old).left) × Wrote line.old 0 (refusal_of (read_of text.now image.old).answer) result line.new }
+    ensures { (image.new ≡ (read_of text.now image.old).left) × Said line.old (read_of text.now image.old).answer result line.new }
 {
     refusals::fill(intelhex::read_image(text, image), line)
-}
-
-// Reads until a buffer is full, the input ends or a read fails, and answers how many bytes stand at the buffer's start.
-fn read_full(input: &mut impl Read, buffer: &mut [u8]) -> usize
-    ensures { result ≤ length buffer.new }
-{
-    let mut done = 0;
-    while done < buffer.len() {
-        let Ok(more) = input.read(&mut buffer[done..]) else {
-            break;
-        };
-        if more == 0 {
-            break;
-        }
-        done += more;
-    }
-    done
-}
-
-// Says something on standard error. If that cannot be written either, there is nobody left to tell.
-fn say(errors: &impl Print, words: &[u8]) {
-    let _ = errors.write_all(words);
-}
-
-// Prints all of an image, or says that it cannot: an image that is cut short must not pass for a whole one.
-fn print(output: &impl Print, errors: &impl Print, image: &[u8]) {
-    if output.write_all(image).is_err() {
-        say(errors, b"the image cannot be written\n");
-    }
 }
 
 // The argument, or none of it where it has more than 4096 digits, which is refused as 0 is.
@@ -62,17 +32,19 @@ fn argument(environment: &impl Env) -> usize
 
 // A text that is read into 4096 bytes or fewer has at most 61453 bytes: 15 for each byte, which has a record of its own that ends with
 // CR LF, and 13 for the end record. So the rest of a text of more than 65536 changes no answer (a theorem of intelhex, `cut_reads`), and
-// is not read.
+// is not read. An image that is cut short must not pass for whole; where the line that says so cannot be written either, there is nobody
+// left to tell.
 fn main(rt: HostRuntime) {
     let n = argument(&rt);
     let mut text = [0u8; 65536];
     let size = read_full(&mut rt.stdin(), &mut text);
     let mut image = [0u8; lengths::TOO_LONG];
     let mut line = [0u8; refusals::LONGEST];
-    let end = convert(&text[..size], &mut image[..n], &mut line);
-    if end == 0 {
-        print(&rt.stdout(), &rt.stderr(), &image[..n]);
+    let Some(end) = convert(&text[..size], &mut image[..n], &mut line) else {
+        if rt.stdout().write_all(&image[..n]).is_err() {
+            let _ = rt.stderr().write_all(b"the image cannot be written\n");
+        }
         return;
-    }
-    say(&rt.stderr(), &line[..end]);
+    };
+    let _ = rt.stderr().write_all(&line[..end]);
 }

@@ -4,17 +4,15 @@ use Rattle.std.proofs.Common.{◌≡◌, ℕ, zero, suc, ◌+◌, ◌*◌, ◌%�
 use mathlib.Core.Bool.{and-false}
 use borrow.Author.Tests.{eqb-false}
 use lib.Seq.{sets}
-use Rattle.intelhex.specs.declared.Answer.{Answer}
-use Rattle.intelhex.specs.declared.lines.Read.{Read}
+use Rattle.intelhex.specs.declared.lines.Line.{Line}
 use Rattle.intelhex.specs.Signs.{line_feed, carriage_return, colon, byte_at, bytes_at}
 use Rattle.intelhex.specs.Records.{data_kind, end_kind}
 use Rattle.intelhex.specs.Lines.{lines_of}
 use Rattle.intelhex.specs.Faults.{lawful, memory, not_yet}
 use Rattle.intelhex.specs.Doors.{sized, read_lines, read_of}
-use Rattle.intelhex.specs.Inside.{end_at, count_at, address_at, kind_at, data_at, next_at, formed_at, verdict, fault_at, LineIs, TextIs}
+use Rattle.intelhex.specs.Inside.{end_at, count_at, address_at, kind_at, data_at, next_at, formed_at, verdict, fault_at, LineTaken}
 use Rattle.intelhex.proofs.LineLaws.{choose}
 use Rattle.intelhex.proofs.Forms.{no_head}
-use Rattle.intelhex.proofs.Judging.{malformed_line}
 use Rattle.intelhex.proofs.ReadLaws.{no_code}
 use Rattle.intelhex.proofs.Standard.{sized_bounds}
 use Rattle.intelhex.proofs.Taken.{free, blank_free}
@@ -47,15 +45,15 @@ end_near text at = near (eqb (get_or text at 0) line_feed) (eqb (get_or text at 
     near false true = omega arith
     near false false = omega arith
 
--- the line that begins at an index, read: what it comes to, and the cells that it leaves
-abbrev read_at : List ℕ → ℕ → List ℕ → Read
-read_at text at cells = record { code = fault_at text at cells; next = next_at text at; filled = count_at text at; closed = eqb (kind_at text at) end_kind }
+-- the line that begins at an index, read: what it comes to without a fault, and the cells that it leaves
+abbrev read_at : List ℕ → ℕ → Line
+read_at text at = record { next = next_at text at; filled = count_at text at; closed = eqb (kind_at text at) end_kind }
 
 abbrev left_at : List ℕ → ℕ → List ℕ → List ℕ
 left_at text at cells = sets cells (address_at text at) (data_at text at)
 
-line_here : (text : List ℕ) (at : ℕ) (cells : List ℕ) → LineIs text at cells (read_at text at cells) (left_at text at cells)
-line_here text at cells = record { code = refl; next = λ none. refl; filled = λ none. refl; closed = λ none. refl; stored = λ none. refl }
+line_here : (text : List ℕ) (at : ℕ) (cells : List ℕ) → LineTaken text at cells (read_at text at) (left_at text at cells)
+line_here text at cells = record { next = refl; filled = refl; closed = refl; stored = refl }
 
 -- two texts whose first signs, so many, are the same: so are the bytes that stand there, and the line ends
 module _ (short text : List ℕ) (m : ℕ) (same : (i : ℕ) → i < m → get_or short i 0 ≡ get_or text i 0) where
@@ -73,7 +71,9 @@ module _ (short text : List ℕ) (m : ℕ) (same : (i : ℕ) → i < m → get_o
   end_same i inside = rw (same i (omega arith), same (i + 1) inside) refl
 
   -- a line that begins at least 523 signs, the longest line, before the first ones end is the same line of both
-  line_same : (at : ℕ) (cells : List ℕ) → at + 523 ≤ m → LineIs short at cells (read_at text at cells) (left_at text at cells)
+  line_same : (at : ℕ) (cells : List ℕ) → at + 523 ≤ m
+      → (fault_at short at cells ≡ fault_at text at cells)
+      × (fault_at text at cells ≡ 0 → LineTaken short at cells (read_at text at) (left_at text at cells))
   unfolding fault_at formed_at
   line_same at cells room =
       let count = byte_same (at + 1) (omega arith) in
@@ -85,52 +85,53 @@ module _ (short text : List ℕ) (m : ℕ) (same : (i : ℕ) → i < m → get_o
       let few = ltb-true (count_at text at) 256 is in
       let bytes = bytes_same (at + 9) (count_at text at) (omega (arith, few)) in
       let all = bytes_same (at + 1) (count_at text at + 5) (omega (arith, few)) in
-      let next = end_same (at + 11 + 2 * count_at text at) (omega (arith, few)) in
-      record {
-        code = rw (count, high, low, kind, all, next, same at (omega arith)) refl;
-        next = λ none. rw (count, next) refl;
-        filled = λ none. sym count;
-        closed = λ none. rw kind refl;
-        stored = λ none. rw (count, high, low, bytes) refl;
-      })
+      let next = end_same (at + 11 + 2 * count_at text at) (omega (arith, few)) in (
+        rw (count, high, low, kind, all, next, same at (omega arith)) refl,
+        λ none.
+            record {
+              next = rw (count, next) refl;
+              filled = sym count;
+              closed = rw kind refl;
+              stored = rw (count, high, low, bytes) refl;
+            },
+      ))
       (λ many.
-      malformed_line (no_head text at cells (rw many (and-false (eqb (get_or text at 0) colon))))
-      (no_head short at cells (rw (count, many) (and-false (eqb (get_or short at 0) colon)))))
+      let here = no_head text at cells (rw many (and-false (eqb (get_or text at 0) colon))) in (
+        no_head short at cells (rw (count, many) (and-false (eqb (get_or short at 0) colon))) ∙ sym here,
+        λ none. absurd (omega (arith, here, none)),
+      ))
 
   module _ (room-short : m ≤ length short) (room-text : m ≤ length text) (image before : List ℕ) where
-    -- both texts come to the same, and so they do where one answer is that of both
+    -- both texts come to the same, and so they do where each comes to the same third
     abbrev Alike : Type 0
     Alike = read_lines image 0 (lines_of short) (memory before false) ≡ read_lines image 0 (lines_of text) (memory before false)
-
-    alike : {says : Answer} {left : List ℕ} → TextIs short before says left → TextIs text before says left → Alike
-    alike one other = sym (one.reads image) ∙ other.reads image
 
     -- line by line, where there is room for a line of 15 signs for each byte to come, and for one of any length
     lines_same : (fuel : ℕ) {cells : List ℕ} {at done : ℕ} → free cells < fuel → at + 15 * free cells + 523 ≤ m
         → Under short before cells at done false → Under text before cells at done false → Alike
     lines_same zero few room one other = absurd (omega arith)
     lines_same (suc fuel) {cells} {at} {done} few room one other =
-        let there = line_same at cells (omega arith) in
+        let (fault_same, there) = line_same at cells (omega arith) in
         let here = line_here text at cells in
         let in_short : at < length short = omega arith in
         let in_text : at < length text = omega arith in
         choose (eqb (fault_at text at cells) 0)
         (λ is.
         let none = eqb-true (fault_at text at cells) 0 is in
-        let filled = line_filled other in_text here none in
+        let filled = line_filled other in_text none here in
         let near = end_near text (at + 11 + 2 * count_at text at) in
-        let first = (line_taken one in_short there none).1 in
-        let second = (line_taken other in_text here none).1 in
+        let first = (line_taken one in_short (fault_same ∙ none) (there none)).1 in
+        let second = (line_taken other in_text none here).1 in
         choose (eqb (kind_at text at) end_kind)
         (λ closed.
         let inside : next_at text at < m = omega (arith, filled, near) in
-        alike (line_behind _ (tested closed first) (omega (arith, inside)) refl) (line_behind _ (tested closed second) (omega (arith, inside)) refl))
+        line_behind (tested closed first) (omega (arith, inside)) image ∙ sym (line_behind (tested closed second) (omega (arith, inside)) image))
         (λ further.
         let some = data_there text cells at none further in
         lines_same fuel (omega (arith, filled, some)) (omega (arith, filled, some, near)) (tested further first) (tested further second)))
         (λ fault.
         let code = eqb-false (fault_at text at cells) 0 fault in
-        alike (line_refused one in_short there _ code refl) (line_refused other in_text here _ code refl))
+        line_refused one in_short fault_same code image ∙ sym (line_refused other in_text refl code image))
 
 -- the first 65536 signs of a text decide what it comes to
 pub cut_reads : (text image : List ℕ) → 65536 ≤ length text → read_of (take 65536 text) image ≡ read_of text image

@@ -1,10 +1,10 @@
 -- The line that begins at an index of a text: its parts, and when it is malformed.
-use Rattle.std.proofs.Common.{◌≡◌, ℕ, suc, ◌+◌, ◌*◌, ◌<◌, Bool, true, false, cond, ◌&&◌, eqb, ltb, List, [], ◌∷◌, ◌++◌, length, get_or, take, drop, sym, refl, ◌∙◌, true≢false, arith, ltb-true}
+use Rattle.std.proofs.Common.{◌≡◌, ℕ, suc, ◌+◌, ◌*◌, ◌<◌, true, false, cond, ◌&&◌, eqb, ltb, List, [], ◌∷◌, ◌++◌, length, get_or, take, drop, sym, refl, ◌∙◌, true≢false, arith, ltb-true}
 use native.Mathlib.Decide.{dec_le}
 use lib.ListN.{get_or-eq_default}
 use Rattle.intelhex.specs.Signs.{colon, no_digit, byte_at, bytes_at, total}
 use Rattle.intelhex.specs.Faults.{some_taken}
-use Rattle.intelhex.specs.Inside.{all_bytes, end_at, count_at, address_at, kind_at, data_at, all_at, next_at, formed_at, verdict, fault_at}
+use Rattle.intelhex.specs.Inside.{all_bytes, end_at, count_at, address_at, kind_at, data_at, all_at, next_at, headed, formed_at, verdict, fault_at}
 use Rattle.intelhex.proofs.LineLaws.{choose, both}
 use Rattle.intelhex.proofs.Digits.{total_append}
 use Rattle.intelhex.proofs.Bytes.{bytes_split, bytes_next, all_append, formed_sum}
@@ -25,10 +25,6 @@ module _ (text : List ℕ) (at : ℕ) where
 
   abbrev pub check_at : ℕ
   check_at = byte_at text (at + 9 + 2 * count_at text at)
-
-  -- whether there is a colon, and the count is a byte
-  abbrev pub headed : Bool
-  headed = eqb (get_or text at 0) colon && ltb (count_at text at) 256
 
   -- all bytes: those before the data, the data and the checksum
   all_parts : all_at text at ≡ heading ++ (data_at text at ++ (check_at ∷ []))
@@ -54,7 +50,7 @@ module _ (text : List ℕ) (at : ℕ) where
       (both (ltb (count_at text at) 256) (all_bytes (bytes_at text (at + 1 + 2) (count_at text at + 4))) (rw first at all)).0
 
   -- a line in form has its head and its end
-  formed_parts : formed_at text at ≡ true → (headed ≡ true) × (0 < next_at text at)
+  formed_parts : formed_at text at ≡ true → (headed text at ≡ true) × (0 < next_at text at)
   unfolding formed_at
   formed_parts formed =
       let (begins, rest) = both (eqb (get_or text at 0) colon) (all_bytes (all_at text at) && ltb 0 (next_at text at)) formed in
@@ -62,7 +58,7 @@ module _ (text : List ℕ) (at : ℕ) where
       (rw (begins, count_byte bytes) refl, ltb-true 0 (next_at text at) ends)
 
   -- what is no byte shows in the sum
-  pub whole_sum : headed ≡ true → ltb (total (all_at text at)) no_digit ≡ all_bytes (all_at text at)
+  pub whole_sum : headed text at ≡ true → ltb (total (all_at text at)) no_digit ≡ all_bytes (all_at text at)
   whole_sum there =
       let few = ltb-true (count_at text at) 256 (both (eqb (get_or text at 0) colon) (ltb (count_at text at) 256) there).1 in
       formed_sum text (at + 1) (count_at text at + 5) (omega (arith, few))
@@ -73,7 +69,7 @@ module _ (text : List ℕ) (at : ℕ) where
     malformed never = choose (formed_at text at) (λ formed. absurd (never formed)) (λ not_so. rw not_so refl)
 
     -- without a colon and a count it is malformed
-    pub no_head : headed ≡ false → fault_at text at cells ≡ 1
+    pub no_head : headed text at ≡ false → fault_at text at cells ≡ 1
     no_head none = malformed (λ formed. true≢false (sym (formed_parts formed).0 ∙ none))
 
     -- and so it is where the text is too short for it
@@ -81,7 +77,7 @@ module _ (text : List ℕ) (at : ℕ) where
     too_short short = malformed (λ formed. omega (arith, short, end_inside text (at + 11 + 2 * count_at text at) (formed_parts formed).1))
 
     -- else its sum and its end decide
-    pub by_tail : headed ≡ true
+    pub by_tail : headed text at ≡ true
         → fault_at text at cells
         ≡ cond (ltb (total (all_at text at)) no_digit && ltb 0 (next_at text at))
         (verdict (total (all_at text at)) (kind_at text at) (address_at text at) (count_at text at) (length cells)

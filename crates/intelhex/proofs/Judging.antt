@@ -1,40 +1,35 @@
 -- A line judged, part by part: malformed, or at fault from 2 on; and so the line as a whole.
+use Rattle.std.specs.Prelude.{Result, Ok, Err, IfOk}
 use Rattle.std.proofs.Common.{◌≡◌, ℕ, ◌+◌, ◌*◌, ◌%◌, ◌<◌, Bool, true, false, cond, not, ◌&&◌, eqb, ltb, List, length, get_or, take, drop, sym, refl, ◌∙◌, arith, ltb-true, le-ltb, lt-ltb}
-use Rattle.intelhex.specs.declared.lines.Head.{Head}
-use Rattle.intelhex.specs.declared.lines.Data.{Data}
-use Rattle.intelhex.specs.declared.lines.Read.{Read}
+use Rattle.intelhex.specs.declared.parts.Head.{Head}
+use Rattle.intelhex.specs.declared.parts.Data.{Data}
+use Rattle.intelhex.specs.declared.Fault.{Fault}
+use Rattle.intelhex.specs.declared.lines.Line.{Line}
 use Rattle.intelhex.specs.Signs.{colon, no_digit, bytes_at, total}
 use Rattle.intelhex.specs.Records.{end_kind}
 use Rattle.intelhex.specs.Faults.{lawful, some_taken}
-use Rattle.intelhex.specs.Inside.{all_bytes, end_at, count_at, address_at, kind_at, all_at, next_at, verdict, fault_at, HeadIs, DataIs, sum_with, Judged, LineIs}
+use Rattle.intelhex.specs.Inside.{all_bytes, count_at, address_at, kind_at, all_at, next_at, code_of, verdict, fault_at, HeadIs, DataIs, sum_with, Judged, LineIs}
 use Rattle.intelhex.proofs.LineLaws.{choose, both}
-use Rattle.intelhex.proofs.Forms.{headed, all_total, data_all, whole_sum, by_tail}
+use Rattle.intelhex.proofs.Forms.{all_total, data_all, whole_sum, by_tail}
 
 pub above : {n : ℕ} → (n ≡ 0 → ⊥) → 0 < n
 above {n} other = omega (arith, other)
 
--- a line that is not in form
-module _ (text : List ℕ) (at : ℕ) (head : Head) (held : Data) (size : ℕ) where
-  abbrev behind : Bool
-  behind = ltb (sum_with text at head held) no_digit && ltb 0 (end_at text (at + 2))
+-- what is said of a line without a fault
+of_line : {P Q : Line → Type 0} (read : Result Line Fault) → (code_of read ≡ 0 → (line : Line) → P line → Q line) → IfOk read P → IfOk read Q
+of_line (Ok line) says known = says refl line known
+of_line (Err fault) says known = tt
 
-  pub not_in_form : (read : Read) → read.code ≡ 1 → behind ≡ false → Judged text at head held size read
-  not_in_form read is_one not_so = record {
-    code = is_one ∙ sym (rw not_so refl);
-    next = λ none. absurd (omega (arith, is_one, none));
-    filled = λ none. absurd (omega (arith, is_one, none));
-    closed = λ none. absurd (omega (arith, is_one, none));
-  }
+-- of one with a fault nothing is said
+no_line : (Q : Line → Type 0) (read : Result Line Fault) → (code_of read ≡ 0 → ⊥) → IfOk read Q
+no_line Q (Ok line) fault = absurd (fault refl)
+no_line Q (Err fault) at_fault = tt
 
 -- a line that is malformed
-pub malformed_line : {text before after : List ℕ} {at : ℕ} {read : Read} → read.code ≡ 1 → fault_at text at before ≡ 1 → LineIs text at before read after
-malformed_line is_one fault-one = record {
-  code = is_one ∙ sym fault-one;
-  next = λ none. absurd (omega (arith, is_one, none));
-  filled = λ none. absurd (omega (arith, is_one, none));
-  closed = λ none. absurd (omega (arith, is_one, none));
-  stored = λ none. absurd (omega (arith, is_one, none));
-}
+pub malformed_line : {text before after : List ℕ} {at : ℕ} (read : Result Line Fault) → code_of read ≡ 1 → fault_at text at before ≡ 1 → LineIs text at before read after
+malformed_line read is_one fault-one =
+    let never : code_of read ≡ 0 → ⊥ = λ none. absurd (omega (arith, is_one, none)) in
+    record { code = is_one ∙ sym fault-one; taken = no_line _ read never }
 
 -- past the end of the cells it does not matter whether one was taken, and there is a fault
 past_fault : (sum kind address count size : ℕ) (twice other : Bool) → size < address + count
@@ -53,8 +48,8 @@ nonzero : (b : Bool) (fault : ℕ) → (fault ≡ 0 → ⊥) → cond b fault 1 
 nonzero true fault other none = other none
 nonzero false fault other none = absurd (omega (arith, none))
 
-module _ {text : List ℕ} (before : List ℕ) {at : ℕ} {head : Head} {held : Data} {read : Read}
-    (is : HeadIs text at head) (there : head.formed ≡ true) (judged : Judged text (at + 9 + 2 * head.count) head held (length before) read) where
+module _ {text : List ℕ} (before : List ℕ) {at : ℕ} {head : Head} {held : Data} {read : Result Line Fault}
+    (is : HeadIs text at head) (judged : Judged text (at + 9 + 2 * head.count) head held (length before) read) where
   module _ {cells after : List ℕ} {from : ℕ} (data_is : DataIs text (at + 9) head.count cells from held after) where
     -- the judgement in the parts of the line
     abbrev rest : Bool
@@ -63,26 +58,18 @@ module _ {text : List ℕ} (before : List ℕ) {at : ℕ} {head : Head} {held : 
     sum_is : sum_with text (at + 9 + 2 * head.count) head held ≡ total (all_at text at)
     sum_is = rw (is.sum, data_is.sum, is.count) (sym (all_total text at))
 
-    code_is : read.code
+    code_is : code_of read
         ≡ cond rest (verdict (total (all_at text at)) (kind_at text at) (address_at text at) (count_at text at) (length before) held.twice) 1
     code_is =
         let ends : at + 9 + 2 * count_at text at + 2 ≡ at + 11 + 2 * count_at text at = omega arith in
         rw (sum_is, is.count, is.address, is.kind, ends) at judged.code
 
-    next_is : read.code ≡ 0 → read.next ≡ next_at text at
-    next_is none =
-        let ends : at + 9 + 2 * count_at text at + 2 ≡ at + 11 + 2 * count_at text at = omega arith in
-        rw (is.count, ends) at (judged.next none)
-
-    headed_is : headed text at ≡ true
-    headed_is = sym is.formed ∙ there
-
     -- where some are no bytes it is malformed
     no_bytes : {left : List ℕ} → ltb (total (all_at text at)) no_digit ≡ false → LineIs text at before read left
-    no_bytes none = malformed_line (rw none at code_is) (by_tail text at before headed_is ∙ rw none refl)
+    no_bytes none = malformed_line read (rw none at code_is) (by_tail text at before is.formed ∙ rw none refl)
 
     all_data : ltb (total (all_at text at)) no_digit ≡ true → all_bytes (bytes_at text (at + 9) head.count) ≡ true
-    all_data small = rw is.count (data_all text at (sym (whole_sum text at headed_is) ∙ small))
+    all_data small = rw is.count (data_all text at (sym (whole_sum text at is.formed) ∙ small))
 
   -- its data were stored
   pub line_stored : {after : List ℕ} → DataIs text (at + 9) head.count before head.address held after → LineIs text at before read after
@@ -91,11 +78,15 @@ module _ {text : List ℕ} (before : List ℕ) {at : ℕ} {head : Head} {held : 
       (λ small. record {
         code =
             rw (rw (is.count, is.address) at (data_is.twice (all_data data_is small))) at (code_is data_is)
-            ∙ sym (by_tail text at before (headed_is data_is));
-        next = next_is data_is;
-        filled = λ none. judged.filled none ∙ is.count;
-        closed = λ none. rw is.kind at (judged.closed none);
-        stored = λ none. rw (is.count, is.address) at (data_is.stored (all_data data_is small));
+            ∙ sym (by_tail text at before is.formed);
+        taken = of_line read (λ none line known.
+            let ends : at + 9 + 2 * count_at text at + 2 ≡ at + 11 + 2 * count_at text at = omega arith in
+            record {
+              next = rw (is.count, ends) at known.0;
+              filled = known.1 ∙ is.count;
+              closed = rw is.kind at known.2;
+              stored = rw (is.count, is.address) at (data_is.stored (all_data data_is small));
+            }) judged.taken;
       })
       (no_bytes data_is)
 
@@ -106,19 +97,16 @@ module _ {text : List ℕ} (before : List ℕ) {at : ℕ} {head : Head} {held : 
       let far : length before < address_at text at + count_at text at = rw (is.count, is.address) at past in
       let other = some_taken (take (count_at text at) (drop (address_at text at) before)) in
       let beyond = past_fault (total (all_at text at)) (kind_at text at) _ _ _ held.twice other far in
-      let never : read.code ≡ 0 → ⊥ = λ none. nonzero (rest data_is) _ beyond.1 (sym (code_is data_is) ∙ none) in
+      let never : code_of read ≡ 0 → ⊥ = λ none. nonzero (rest data_is) _ beyond.1 (sym (code_is data_is) ∙ none) in
       record {
-        code = rw beyond.0 at (code_is data_is) ∙ sym (by_tail text at before (headed_is data_is));
-        next = λ none. absurd (never none);
-        filled = λ none. absurd (never none);
-        closed = λ none. absurd (never none);
-        stored = λ none. absurd (never none);
+        code = rw beyond.0 at (code_is data_is) ∙ sym (by_tail text at before is.formed);
+        taken = no_line _ read never;
       }
 
--- the count of a head that is formed
-pub count_small : {text : List ℕ} {at : ℕ} {head : Head} → HeadIs text at head → head.formed ≡ true → head.count < 256
-count_small {text} {at} {head} is formed =
-    rw is.count (ltb-true (count_at text at) 256 (both (eqb (get_or text at 0) colon) (ltb (count_at text at) 256) (sym is.formed ∙ formed)).1)
+-- the count of a head is a byte
+pub count_small : {text : List ℕ} {at : ℕ} {head : Head} → HeadIs text at head → head.count < 256
+count_small {text} {at} {head} is =
+    rw is.count (ltb-true (count_at text at) 256 (both (eqb (get_or text at 0) colon) (ltb (count_at text at) 256) is.formed).1)
 
 -- what an end record is at fault for
 pub end_verdict : (sum size : ℕ) (twice : Bool) → verdict sum end_kind 0 0 size twice ≡ cond (not (eqb (sum % 256) 0)) 2 (cond twice 5 0)

@@ -1,5 +1,11 @@
 -- The standard text: the images that have one, a record in three parts, what is left of a text from an address on, and how long it is.
-use Rattle.std.proofs.Common.{◌≡◌, ℕ, suc, ◌+◌, ◌-◌, ◌*◌, ◌/◌, ◌%◌, ◌<◌, ◌≤◌, true, leb, List, [], ◌∷◌, ◌++◌, length, take, drop, sym, refl, ap, ◌∙◌, append_assoc, arith, length-append, length-drop, length-take, take_all, leb-true}
+use Rattle.std.proofs.Common.{◌≡◌, ℕ, suc, ◌+◌, ◌-◌, ◌*◌, ◌/◌, ◌%◌, ◌<◌, ◌≤◌, true, leb, List, [], ◌∷◌, ◌++◌, length, take, drop, sym, refl, ap, ◌∙◌, append_assoc, arith, length-append, length-take, take_all, drop-drop, min, leb-true}
+use Rattle.std.proofs.Common.{get_or}
+use Rattle.std.specs.Int.{to_be_bytes}
+use Rattle.std.specs.Int.{w16}
+use mathlib.Core.List.{append-nil}
+use lib.ListN.{drop_of_length-le}
+use Rattle.std.proofs.lemmas.List.{take-append-le, drop-append-le}
 use Rattle.text.specs.Text.{Wrote}
 use Rattle.text.proofs.Writing.{wrote_none, wrote_on}
 use Rattle.intelhex.specs.Signs.{line_feed, two_digits, in_digits, total}
@@ -12,6 +18,11 @@ use Rattle.intelhex.proofs.Digits.{length_digits, digits_append}
 -- the lengths that an image may have
 pub sized_bounds : (n : ℕ) → sized n ≡ true → (41 ≤ n) × (n ≤ 4096)
 sized_bounds n right = let (least, most) = both (leb 41 n) (leb n 4096) right in (leb-true 41 n least, leb-true n 4096 most)
+
+-- the two bytes of an address, the high one first
+pub high_first : (address : ℕ) {bytes : List ℕ} → address < 65536 → bytes ≡ to_be_bytes w16 address
+    → (get_or bytes 0 0 ≡ address / 256) × (get_or bytes 1 0 ≡ address % 256)
+high_first address small is = rw is (omega (arith, small), refl)
 
 -- three numbers and more, added up modulo 256 one after another
 added : (a b : ℕ) → (a % 256 + b) % 256 ≡ (a + b) % 256
@@ -68,15 +79,20 @@ pub length_end : length (line_of end_kind 0 []) ≡ 12
 unfolding record_of in_digits two_digits
 length_end = refl
 
--- the sixteen bytes of a record, and those of a last one, as the code cuts them out
-pub sixteen : (image : List ℕ) (address : ℕ) → take (address + 16 - address) (drop address image) ≡ take 16 (drop address image)
-sixteen image address = let same : address + 16 - address ≡ 16 = omega arith in rw same
+-- the bytes of the next record, as they are cut off what is left of an image
+cut_off : (bytes more : List ℕ) → length bytes ≡ min 16 (length (bytes ++ more)) → (bytes ≡ take 16 (bytes ++ more)) × (drop 16 (bytes ++ more) ≡ more)
+cut_off bytes [] long =
+    let few : length bytes ≤ 16 = omega (arith, long) in
+    rw append-nil (sym (take_all 16 bytes few), drop_of_length-le bytes few)
+cut_off bytes (first ∷ more) long =
+    let few : length bytes ≡ 16 = omega (arith, long, length-append bytes (first ∷ more)) in
+    (sym (take-append-le 16 bytes (first ∷ more) (omega (arith, few)) ∙ take_all 16 bytes (omega (arith, few))), drop-append-le 16 bytes (first ∷ more) (omega (arith, few)) ∙ rw (drop_of_length-le bytes {i = 16} (omega (arith, few))) refl)
 
-pub the_last : (image : List ℕ) (address : ℕ) → length image < address + 16
-    → take (length image - address) (drop address image) ≡ take 16 (drop address image)
-the_last image address few =
-    let left : length (drop address image) ≡ length image - address = length-drop address image in
-    take_all (length image - address) (drop address image) (omega (arith, left)) ∙ sym (take_all 16 (drop address image) (omega (arith, left)))
+pub next_bytes : (image : List ℕ) (address : ℕ) {left bytes more : List ℕ} {size : ℕ} → drop address image ≡ left → size ≡ 16 → left ≡ bytes ++ more → length bytes ≡ min size (length left)
+    → (bytes ≡ take 16 (drop address image)) × (drop (address + 16) image ≡ more)
+next_bytes image address {left} {bytes} {more} is sixteen cut long =
+    let (first, rest) = cut_off bytes more (rw (sixteen, cut) at long) in
+    (rw (is, cut) first, sym (drop-drop 16 address image) ∙ rw (is, cut) rest)
 
 -- a text that is being written: some of the standard text, and the rest from an address on
 pub record Begun (image before : List ℕ) (address next : ℕ) (text : List ℕ) : Type 0 where
@@ -99,7 +115,6 @@ module _ {image before text : List ℕ} {address next : ℕ} (begun : Begun imag
         let line = line_of data_kind address (take 16 (drop address image)) in
         omega (arith, lengths, begun.room, ap length (text_next image address more), length-append line (text_from image (address + 16)), length_line address (take 16 (drop address image)))
 
-    -- whichever way its bytes are cut out
     pub line_fits : (bytes : List ℕ) → bytes ≡ take 16 (drop address image) → (length bytes ≤ 16) × (next + 12 + 2 * length bytes ≤ length before)
     line_fits bytes same = rw same (omega (arith, length-take 16 (drop address image)), line_room)
 

@@ -2,7 +2,7 @@
 use Rattle.std.proofs.Common.{◌≡◌, ℕ, zero, suc, ◌+◌, ◌-◌, ◌*◌, ◌<◌, ◌≤◌, Bool, true, false, cond, ◌&&◌, eqb, leb, ◌⊎◌, List, get_or, refl, inl, inr, arith, eqb-true, leb-true}
 use native.Mathlib.Decide.{ℕ_discrete}
 use Rattle.intelhex.specs.Signs.{no_digit, within, value_of, byte_at}
-use Rattle.intelhex.specs.Inside.{Laid}
+use Rattle.intelhex.specs.Laid.{Laid}
 use Rattle.intelhex.proofs.LineLaws.{both}
 
 -- a test holds of every number below n

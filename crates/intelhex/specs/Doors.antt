@@ -1,5 +1,9 @@
 -- What the two doors come to (document 02, P2): an answer, and what is left in the lent text or image.
-use Rattle.std.specs.Prelude.{ℕ, ◌+◌, Bool, false, cond, ◌&&◌, List, [], ◌∷◌, ◌++◌, length, drop, replicate, ◌==◌, nat_le, nat_lt}
+use Rattle.std.specs.Prelude.{ℕ, ◌+◌, Bool, false, cond, ◌&&◌, List, [], ◌∷◌, ◌++◌, length, drop, replicate, ◌==◌, nat_le, nat_lt, Result, Ok, Err}
+use Rattle.intelhex.specs.declared.Fault.{Fault}
+use Rattle.intelhex.specs.declared.Fault.TheVariants.{Malformed, Checksum, Kind, PastEnd, Twice, Missing}
+use Rattle.intelhex.specs.declared.Refusal.{Refusal}
+use Rattle.intelhex.specs.declared.Refusal.TheVariants.{AtLine, BadLength, NoRoom}
 use Rattle.intelhex.specs.declared.Answer.{Answer}
 use Rattle.intelhex.specs.Records.{standard_text}
 use Rattle.intelhex.specs.Lines.{Line, lines_of}
@@ -11,6 +15,29 @@ pub record Outcome : Type 0 where
 
 abbrev pub answer : ℕ → ℕ → ℕ → Answer
 answer code line length = record { code = code; line = line; length = length }
+
+-- the number of a fault
+abbrev pub number_of : Fault → ℕ
+number_of Malformed = 1
+number_of Checksum = 2
+number_of Kind = 3
+number_of PastEnd = 4
+number_of Twice = 5
+number_of Missing = 6
+
+-- a refusal in numbers, and so what writing and reading come to
+abbrev pub refusal_told : Refusal → Answer
+refusal_told (AtLine fault line) = answer (number_of fault) line 0
+refusal_told BadLength = answer 7 0 0
+refusal_told NoRoom = answer 8 0 0
+
+abbrev pub written_told : Result ℕ Refusal → Answer
+written_told (Ok length) = answer 0 0 length
+written_told (Err refusal) = refusal_told refusal
+
+abbrev pub read_told : Result (Unit {0}) Refusal → Answer
+read_told (Ok done) = answer 0 0 0
+read_told (Err refusal) = refusal_told refusal
 
 abbrev pub outcome : Answer → List ℕ → Outcome
 outcome answer left = record { answer = answer; left = left }

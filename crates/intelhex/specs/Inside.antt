@@ -1,15 +1,16 @@
 -- What the functions inside the crate promise each other. No promise of a door rests on it.
-use Rattle.std.specs.Prelude.{◌≡◌, ℕ, ◌+◌, ◌-◌, ◌*◌, ◌%◌, ◌<◌, Bool, true, false, cond, not, ◌&&◌, List, [], ◌∷◌, ◌++◌, length, take, drop, ◌==◌, nat_lt, slice_index}
+use Rattle.std.specs.Prelude.{◌≡◌, ℕ, ◌+◌, ◌-◌, ◌*◌, ◌%◌, ◌<◌, Bool, true, false, cond, not, ◌&&◌, List, [], ◌∷◌, ◌++◌, length, take, drop, ◌==◌, nat_lt, slice_index, Result, Ok, Err, IfOk, is_ok}
 use Rattle.std.proofs.lemmas.List.Edits.{sets}
-use Rattle.intelhex.specs.declared.lines.Head.{Head}
-use Rattle.intelhex.specs.declared.lines.Data.{Data}
-use Rattle.intelhex.specs.declared.lines.Read.{Read}
-use Rattle.intelhex.specs.Signs.{line_feed, carriage_return, colon, two_digits, in_digits, no_digit, value_of, byte_at, bytes_at, total}
+use Rattle.intelhex.specs.declared.parts.Head.{Head}
+use Rattle.intelhex.specs.declared.parts.Data.{Data}
+use Rattle.intelhex.specs.declared.lines.Line.{Line}
+use Rattle.intelhex.specs.Signs.{line_feed, carriage_return, colon, two_digits, in_digits, no_digit, byte_at, bytes_at, total}
 use Rattle.intelhex.specs.Records.{end_kind}
-use Rattle.intelhex.specs.declared.Answer.{Answer}
+use Rattle.intelhex.specs.declared.Fault.{Fault}
+use Rattle.intelhex.specs.declared.Refusal.{Refusal}
 use Rattle.intelhex.specs.Lines.{lines_of}
 use Rattle.intelhex.specs.Faults.{lawful, memory, some_taken, all_taken}
-use Rattle.intelhex.specs.Doors.{outcome, read_lines}
+use Rattle.intelhex.specs.Doors.{number_of, outcome, read_told, read_lines}
 
 -- what stands before the data of a record, and what stands behind them where the bytes before have a sum
 abbrev pub head_of : ℕ → ℕ → ℕ → ℕ → List ℕ
@@ -17,10 +18,6 @@ head_of kind high low count = colon ∷ in_digits (count ∷ high ∷ low ∷ ki
 
 abbrev pub tail_of : ℕ → List ℕ
 tail_of sum = two_digits ((256 - sum % 256) % 256) ++ (line_feed ∷ [])
-
--- a table of what each sign counts
-pub record Laid (values : List ℕ) : Type 0 where
-  pub counts : (sign : ℕ) → sign < 256 → slice_index values sign ≡ value_of sign
 
 -- each of some numbers is a byte
 unfoldable pub all_bytes : List ℕ → Bool
@@ -56,6 +53,11 @@ next_at text at = end_at text (at + 11 + 2 * count_at text at)
 unfoldable pub formed_at : List ℕ → ℕ → Bool
 formed_at text at = slice_index text at == colon && (all_bytes (all_at text at) && nat_lt 0 (next_at text at))
 
+-- the number of a fault, 0 where there is none
+abbrev pub code_of : {A : Type 0} → Result A Fault → ℕ
+code_of (Ok read) = 0
+code_of (Err fault) = number_of fault
+
 -- what a record is at fault for, whose signs are a colon and bytes
 unfoldable pub verdict : ℕ → ℕ → ℕ → ℕ → ℕ → Bool → ℕ
 verdict sum kind address count size twice =
@@ -72,9 +74,13 @@ fault_at text at cells =
     (verdict (total (all_at text at)) (kind_at text at) address count (length cells) (some_taken (take count (drop address cells))))
     1
 
+-- whether there is a colon, and the count is a byte
+abbrev pub headed : List ℕ → ℕ → Bool
+headed text at = slice_index text at == colon && nat_lt (count_at text at) 256
+
 -- what stands before the data of the line that begins at an index
 pub record HeadIs (text : List ℕ) (at : ℕ) (head : Head) : Type 0 where
-  pub formed : head.formed ≡ (slice_index text at == colon && nat_lt (count_at text at) 256)
+  pub formed : headed text at ≡ true
   pub count : head.count ≡ count_at text at
   pub address : head.address ≡ address_at text at
   pub kind : head.kind ≡ kind_at text at
@@ -92,25 +98,27 @@ pub record DataIs (text : List ℕ) (at count : ℕ) (before : List ℕ) (addres
 abbrev pub sum_with : List ℕ → ℕ → Head → Data → ℕ
 sum_with text at head held = head.sum + held.sum + byte_at text at
 
-pub record Judged (text : List ℕ) (at : ℕ) (head : Head) (held : Data) (size : ℕ) (read : Read) : Type 0 where
+pub record Judged (text : List ℕ) (at : ℕ) (head : Head) (held : Data) (size : ℕ) (read : Result Line Fault) : Type 0 where
   pub code :
-      read.code
+      code_of read
       ≡ cond (nat_lt (sum_with text at head held) no_digit && nat_lt 0 (end_at text (at + 2)))
       (verdict (sum_with text at head held) head.kind head.address head.count size held.twice)
       1
-  pub next : read.code ≡ 0 → read.next ≡ end_at text (at + 2)
-  pub filled : read.code ≡ 0 → read.filled ≡ head.count
-  pub closed : read.code ≡ 0 → read.closed ≡ (head.kind == end_kind)
+  pub taken : IfOk read (λ line. (line.next ≡ end_at text (at + 2)) × (line.filled ≡ head.count) × (line.closed ≡ (head.kind == end_kind)))
+
+-- what is read of the line that begins at an index, where it is without a fault, and the cells that it leaves
+pub record LineTaken (text : List ℕ) (at : ℕ) (before : List ℕ) (line : Line) (after : List ℕ) : Type 0 where
+  pub next : line.next ≡ next_at text at
+  pub filled : line.filled ≡ count_at text at
+  pub closed : line.closed ≡ (kind_at text at == end_kind)
+  pub stored : after ≡ sets before (address_at text at) (data_at text at)
 
 -- the line that begins at an index was read into cells
-pub record LineIs (text : List ℕ) (at : ℕ) (before : List ℕ) (read : Read) (after : List ℕ) : Type 0 where
-  pub code : read.code ≡ fault_at text at before
-  pub next : read.code ≡ 0 → read.next ≡ next_at text at
-  pub filled : read.code ≡ 0 → read.filled ≡ count_at text at
-  pub closed : read.code ≡ 0 → read.closed ≡ (kind_at text at == end_kind)
-  pub stored : read.code ≡ 0 → after ≡ sets before (address_at text at) (data_at text at)
+pub record LineIs (text : List ℕ) (at : ℕ) (before : List ℕ) (read : Result Line Fault) (after : List ℕ) : Type 0 where
+  pub code : code_of read ≡ fault_at text at before
+  pub taken : IfOk read (λ line. LineTaken text at before line after)
 
 -- a text was read into cells: what it comes to, whatever image it is for
-pub record TextIs (text before : List ℕ) (answer : Answer) (after : List ℕ) : Type 0 where
-  pub reads : (image : List ℕ) → outcome answer (cond (answer.code == 0) after image) ≡ read_lines image 0 (lines_of text) (memory before false)
-  pub taken : answer.code ≡ 0 → all_taken after ≡ true
+pub record TextIs (text before : List ℕ) (read : Result (Unit {0}) Refusal) (after : List ℕ) : Type 0 where
+  pub reads : (image : List ℕ) → outcome (read_told read) (cond (is_ok read) after image) ≡ read_lines image 0 (lines_of text) (memory before false)
+  pub taken : IfOk read (λ done. all_taken after ≡ true)

@@ -4,4 +4,5 @@ pub mod Lines
 pub mod Faults
 pub mod Doors
 pub mod Covered
+pub mod Laid
 pub mod Inside

@@ -6,17 +6,15 @@ ghost use Rattle.intelhex.specs.Signs.{digit, two_digits, in_digits, total};
 ghost use Rattle.intelhex.specs.Records.{line_of, records_in, standard_text, data_kind, end_kind};
 ghost use Rattle.intelhex.specs.Inside.{head_of, tail_of};
 
-use std::num::{wrapping_add_u8, wrapping_sub_u8};
-
 // The sign of a digit, in capitals.
 fn sign_of(d: u8) -> u8
     requires { d < 16 }
     ensures { result ≡ digit d }
 {
     if d < 10 {
-        return 48 + d;
+        return b'0' + d;
     }
-    55 + d
+    b'A' - 10 + d
 }
 
 // Writes a byte as two digits.
@@ -35,11 +33,9 @@ fn write_pairs(sum: u8, bytes: &[u8], text: &mut [u8], at: usize) -> u8
 {
     let mut sum = sum;
     let mut next = at;
-    let mut done = 0;
-    while done < bytes.len() {
-        next = write_pair(bytes[done], text, next);
-        sum = wrapping_add_u8(sum, bytes[done]);
-        done += 1;
+    for byte in bytes {
+        next = write_pair(*byte, text, next);
+        sum = sum.wrapping_add(*byte);
     }
     sum
 }
@@ -61,7 +57,7 @@ fn write_tail(sum: u8, text: &mut [u8], at: usize) -> usize
     requires { at + 3 ≤ length text.old }
     ensures { Wrote text.old at (tail_of sum) result text.new }
 {
-    let next = write_pair(wrapping_sub_u8(0, sum), text, at);
+    let next = write_pair(0u8.wrapping_sub(sum), text, at);
     text::write_byte(b'\n', text, next)
 }
 
@@ -71,10 +67,9 @@ fn write_line(address: usize, bytes: &[u8], text: &mut [u8], at: usize) -> usize
     ensures { Wrote text.old at (line_of data_kind address bytes.now) result text.new }
 {
     let count = bytes.len() as u8;
-    let high = (address / 256) as u8;
-    let low = (address % 256) as u8;
+    let [high, low] = (address as u16).to_be_bytes();
     let next = write_head(count, high, low, text, at);
-    let sum = wrapping_add_u8(wrapping_add_u8(count, high), low);
+    let sum = count.wrapping_add(high).wrapping_add(low);
     let sum = write_pairs(sum, bytes, text, next);
     write_tail(sum, text, next + 2 * bytes.len())
 }
@@ -95,20 +90,16 @@ pub(crate) fn length_for(n: usize) -> usize
     2 * n + 12 * ((n + 15) / 16) + 12
 }
 
-// Writes the standard text.
+// Writes the standard text. The address goes on by itself: with `enumerate` each record costs more instructions.
 pub(crate) fn write_lines(image: &[u8], text: &mut [u8]) -> usize
     requires { (length image.now ≤ 4096) × (length (standard_text image.now) ≤ length text.old) }
     ensures { Wrote text.old 0 (standard_text image.now) result text.new }
 {
     let mut address = 0;
     let mut next = 0;
-    while address + 16 <= image.len() {
-        next = write_line(address, &image[address..address + 16], text, next);
+    for bytes in image.chunks(16) {
+        next = write_line(address, bytes, text, next);
         address += 16;
-    }
-    if address < image.len() {
-        let last = write_line(address, &image[address..], text, next);
-        return write_end(text, last);
     }
     write_end(text, next)
 }

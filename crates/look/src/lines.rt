@@ -15,14 +15,10 @@ fn fill_answer(answer: Answer, text: &mut [u8]) -> usize
     requires { answer_longest ≤ length text.old }
     ensures { (Wrote text.old 0 (answer_text answer) result text.new) × (result ≤ answer_longest) }
 {
-    let code = answer.code as u64;
-    let count = answer.count as u64;
-    let lag = answer.lag;
-    let place = answer.place as u64;
-    let coded = text::write_decimal_line(b"code", code, text, 0);
-    let counted = text::write_decimal_line(b"count", count, text, coded);
-    let lagged = text::write_signed_line(b"lag", lag, text, counted);
-    text::write_decimal_line(b"place", place, text, lagged)
+    let coded = text::write_line(b"code", answer.code, text, 0);
+    let counted = text::write_line(b"count", answer.count, text, coded);
+    let lagged = text::write_line(b"lag", answer.lag, text, counted);
+    text::write_line(b"place", answer.place, text, lagged)
 }
 
 // Writes the line of a bit's count, from an index on, and answers the index past it.
@@ -30,8 +26,8 @@ fn write_bit(bit: usize, count: u32, text: &mut [u8], at: usize) -> usize
     requires { (bit < 8) × (at + bit_longest ≤ length text.old) }
     ensures { (Wrote text.old at (line (bit_key bit) (decimal count)) result text.new) × (result ≤ at + bit_longest) }
 {
-    let key = [b'b', b'i', b't', 48 + bit as u8];
-    text::write_decimal_line(&key, count as u64, text, at)
+    let key = [b'b', b'i', b't', b'0' + bit as u8];
+    text::write_line(&key, count, text, at)
 }
 
 // Writes the lines of all bits.
@@ -40,10 +36,8 @@ fn write_bits(bits: [u32; 8], text: &mut [u8], at: usize) -> usize
     ensures { Wrote text.old at (flatten (bit_lines bits)) result text.new }
 {
     let mut next = at;
-    let mut bit = 0;
-    while bit < 8 {
-        next = write_bit(bit, bits[bit], text, next);
-        bit += 1;
+    for (bit, count) in bits.iter().enumerate() {
+        next = write_bit(bit, *count, text, next);
     }
     next
 }

@@ -5,7 +5,7 @@ use Rattle.counter.specs.declared.doors.Part as doors
 use Rattle.room.specs.declared.kept.Kept as keeping
 use Rattle.room.specs.declared.left.Room as leaving
 use Rattle.intelhex.specs.declared.Answer as hex
-use Rattle.card.specs.declared.Answer as card_answer
+use Rattle.card.specs.Answers as card_answer
 use Rattle.lyre.specs.declared.Answer.{Answer}
 use Rattle.lyre.specs.declared.ReadAnswer.{ReadAnswer}
 use Rattle.lyre.specs.declared.Part.{Part}

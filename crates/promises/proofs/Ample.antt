@@ -3,6 +3,7 @@
 --   Calm                      storing that is done with just those writes, the map staying as it is
 --   calm_from, calm_store     so it goes where those cells have life
 --   tally_slot, tally_other   how many of those writes are asked of a slot's cell, and of any other
+use Rattle.std.proofs.Common.{Ok}
 use Prim.Native.Nat.{ℕ, zero, suc, ◌+◌, ◌≤◌, ◌<◌}
 use mathlib.Core.Path.{◌≡◌, refl, sym, ap, ◌∙◌}
 use mathlib.Core.Bool.{Bool, true, false, cond}
@@ -17,12 +18,10 @@ use Rattle.cells.specs.Run.{Run, Write, write, run, still, ◌then◌}
 use Rattle.cells.specs.Log.{asked_of}
 use Rattle.cells.proofs.Logs.{asked_none, asked_here, asked_elsewhere}
 use Rattle.counter.specs.declared.places.Places.{Places}
-use Rattle.counter.specs.declared.verdict.Work.{Work}
-use Rattle.counter.specs.declared.verdict.Work.TheVariants.{Done}
 use Rattle.counter.specs.declared.layout.Layout.{Layout}
 use Rattle.counter.specs.Layout.{slots}
 use Rattle.counter.specs.Map.{map_in, pointer_of}
-use Rattle.counter.specs.Verdict.{◌and_then◌}
+use Rattle.counter.specs.Verdict.{◌and_then◌, Work, complete}
 use Rattle.counter.specs.Store.{slot_code, store_slot, store_from, store}
 use Rattle.counter.proofs.SoundPointers.{Sound}
 use Rattle.counter.proofs.Ready.{pointers, data_of, Ready}
@@ -50,7 +49,7 @@ writes_same (suc n) k f h f' h' code same =
     rw (e.0, e.1, writes_same n (k + 1) f h f' h' code (λ j l u. same j (omega arith) (omega arith)))
 
 pub record Calm (layout : Layout) (p : Places) (n k c : ℕ) (s : Chip) (r : Run Work) : Type 0 where
-  pub done : r.answer ≡ Done
+  pub done : r.answer ≡ complete
   pub tried : r.tried ≡ 0
   pub map : map_in layout p r.after.cells ≡ map_in layout p s.cells
   pub log : r.log ≡ changed_writes n k (pointers layout p s) (data_of layout p s) (slot_code c)
@@ -63,7 +62,7 @@ module _ (layout : Layout) (p : Places) (c : ℕ) where
   -- a slot that holds its byte is passed over
   calm_there :
       (n k : ℕ) (s : Chip) (q : Run Work) → data_of layout p s k ≡ slot_code c k → Calm layout p n (k + 1) c s q
-      → Calm layout p (suc n) k c s (still Done s then q)
+      → Calm layout p (suc n) k c s (still complete s then q)
   unfolding changed_writes
   calm_there n k s q e calm =
       record {
@@ -102,7 +101,7 @@ module _ (layout : Layout) (p : Places) (c : ℕ) where
         (λ j l u. (ap (λ (map : List ℕ). pointer_of map j) map_same, data_same j (omega arith) (λ e. omega arith)))
 
     -- a slot that changes is one write
-    calm_taken : (q : Run Work) → Calm layout p n (k + 1) c t q → Calm layout p (suc n) k c s (run Done (write a (slot_code c k) ∷ []) 0 t then q)
+    calm_taken : (q : Run Work) → Calm layout p n (k + 1) c t q → Calm layout p (suc n) k c s (run complete (write a (slot_code c k) ∷ []) 0 t then q)
     unfolding changed_writes
     calm_taken q calm =
         record {

@@ -3,6 +3,7 @@
 --   calm_points               the pointers of the slots from k on
 --   points_calm               those of all slots
 --   calm_maps                 all pointers, then the mark
+use Rattle.std.proofs.Common.{Ok}
 use Prim.Native.Nat.{ℕ, ◌+◌, ◌≤◌, ◌<◌}
 use mathlib.Core.Path.{◌≡◌, ap, ◌∙◌}
 use mathlib.Core.List.{List}
@@ -16,10 +17,8 @@ use Rattle.cells.specs.Row.{InRow}
 use Rattle.cells.proofs.Logs.{every_wider, within_kept, within_life}
 use Rattle.cells.proofs.Rows.{row_laws}
 use Rattle.counter.specs.declared.places.Places.{Places}
-use Rattle.counter.specs.declared.verdict.Work.{Work}
-use Rattle.counter.specs.declared.verdict.Work.TheVariants.{Done}
 use Rattle.counter.specs.Map.{mark_bytes, offset_of}
-use Rattle.counter.specs.Verdict.{◌and_then◌}
+use Rattle.counter.specs.Verdict.{◌and_then◌, Work, complete}
 use Rattle.counter.specs.Opening.{put_pointers, put_mark}
 use Rattle.counter.specs.Inside.{pointer_row, map_row}
 use Rattle.cells.proofs.AskedOnce.{asked_outside, Once, once_append, once_row}
@@ -33,7 +32,7 @@ use Rattle.counter.proofs.Stores.{done_then}
 use Rattle.counter.proofs.Openings.{PointsLaws, points_laws, map_laws}
 
 pub record Calmly (Place : ℕ → Type 0) (r : Run Work) : Type 0 where
-  pub done : r.answer ≡ Done
+  pub done : r.answer ≡ complete
   pub places : Every Place r.log
   pub once : Once r.log
 

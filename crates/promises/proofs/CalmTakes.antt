@@ -4,6 +4,8 @@
 --   LiveGap                   every cell of a gap has life
 --   Unwritten                 none reads 80
 --   CalmTake, calm_take       the taking is done, no cell asked more than one write and, where none reads 80, each address just one
+use Rattle.counter.specs.Verdict.{complete}
+use Rattle.std.proofs.Common.{Option, Some, Ok}
 use Prim.Native.Nat.{ℕ, zero, suc, ◌+◌, ◌-◌, ◌*◌, ◌/◌, ◌%◌, ◌≤◌, ◌<◌}
 use mathlib.Core.Path.{◌≡◌, refl, sym, ap, ◌∙◌}
 use mathlib.Core.Bool.{Bool}
@@ -12,8 +14,6 @@ use native.Mathlib.Decide.{dec_lt}
 use native.Mathlib.Omega.{arith}
 use lib.ListN.{get_or}
 use Rattle.code.specs.Codes.{code_of}
-use Rattle.cells.specs.declared.row.Found.{Found}
-use Rattle.cells.specs.declared.row.Found.TheVariants.{At}
 use Rattle.cells.specs.Chip.{Chip, cell_at, life_at, Paired}
 use Rattle.cells.specs.Run.{Run, write, run, ◌then◌, ◌giving◌}
 use Rattle.cells.specs.Log.{asked_of}
@@ -24,7 +24,6 @@ use Rattle.cells.proofs.Puts.{PutLaws, put_laws}
 use Rattle.counter.specs.declared.map.Kind.{Kind}
 use Rattle.counter.specs.declared.places.Places.{Places}
 use Rattle.counter.specs.declared.spares.Gap.{Gap}
-use Rattle.counter.specs.declared.verdict.Work.TheVariants.{Done}
 use Rattle.counter.specs.Slots.{kind_of}
 use Rattle.counter.specs.Spares.{whole_area, narrow, next_of, spares_of}
 use Rattle.counter.specs.Store.{try_spares}
@@ -35,7 +34,8 @@ use Rattle.counter.specs.Layout.{slots}
 use Rattle.counter.proofs.Settings.{Placed}
 use Rattle.counter.proofs.Gaps.{Free}
 use Rattle.counter.proofs.Takes.{InGap, TakeLaws, narrow_inside, narrow_other, take_landing, take_laws}
-use Rattle.counter.proofs.NextSpares.{Next, next_free, low_next, high_next, spares_alive}
+use Rattle.counter.specs.Inside.{Next}
+use Rattle.counter.proofs.NextSpares.{next_free, low_next, high_next, spares_alive}
 use Rattle.counter.proofs.WorkSteps.{whole_gap, take_none}
 
 abbrev pub highs : ℕ → ℕ
@@ -56,7 +56,7 @@ pub record NextFree (kind : Kind) (n k : ℕ) (g : Gap) : Type 0 where
   pub roomy : Roomy n (k + 1) (narrow kind (next_of kind g) g)
 
 module _ (n k : ℕ) (g : Gap) (room : Roomy (suc n) k g) where
-  next_roomy : {a : ℕ} {left : Gap} → Next k g a left → Roomy n (k + 1) left → NextFree (kind_of k) n k g
+  next_roomy : {a : ℕ} {left : Gap} → Next (kind_of k) g a left → Roomy n (k + 1) left → NextFree (kind_of k) n k g
   next_roomy next roomy =
       let some = next.some in
       record { some = omega arith; free = next_free (kind_of k) g some; roomy = rw (← next.here, ← next.leaves) roomy }
@@ -71,11 +71,11 @@ module _ (n k : ℕ) (g : Gap) (room : Roomy (suc n) k g) where
       go (yes l) =
           let cells = room.cells in
           let reach = room.reach in
-          next_roomy (low_next k g l (omega arith)) (record { cells = omega arith; reach = rw sum (omega arith) })
+          next_roomy (low_next g k l (omega arith)) (record { cells = omega arith; reach = rw sum (omega arith) })
       go (no l) =
           let cells = room.cells in
           let reach = room.reach in
-          next_roomy (high_next k g (omega arith) (omega arith) (omega arith)) (record { cells = omega arith; reach = rw sum (omega arith) })
+          next_roomy (high_next g k (omega arith) (omega arith) (omega arith)) (record { cells = omega arith; reach = rw sum (omega arith) })
 
 pub record LiveGap (g : Gap) (s : Chip) : Type 0 where
   pub paired : Paired s
@@ -85,7 +85,7 @@ abbrev pub Unwritten : Gap → Chip → Type 0
 Unwritten g s = (a : ℕ) → InGap g a → cell_at s a ≡ code_of 0 → ⊥
 
 pub record CalmTake (n : ℕ) (g : Gap) (s : Chip) (r : Run Taken) : Type 0 where
-  pub done : r.answer.work ≡ Done
+  pub done : r.answer.work ≡ complete
   pub asked : Unwritten g s → (j : ℕ) → j < n → asked_of (get_or r.answer.addresses j 0) r.log ≡ 1
   pub once : Once r.log
 
@@ -103,7 +103,7 @@ module _ (n k : ℕ) (g : Gap) (s : Chip) (live : LiveGap g s) (next : NextFree 
   in_gap : InGap g a
   in_gap = record { from = next.free.from; to = next.free.to }
 
-  spares_are : try_spares k g (code_of 0) s ≡ run (At a) first.log 1 first.after
+  spares_are : try_spares k g (code_of 0) s ≡ run (Some a) first.log 1 first.after
   spares_are = let some = next.some in spares_alive k g (code_of 0) s (omega arith) live.paired (live.alive a in_gap)
 
   put : PutLaws a (code_of 0) s
@@ -129,8 +129,8 @@ module _ (n k : ℕ) (g : Gap) (s : Chip) (live : LiveGap g s) (next : NextFree 
   abbrev rest : Run Taken
   rest = take_from n (k + 1) left first.after
 
-  take_is : take_from (suc n) k g s ≡ run (At a) first.log 1 first.after then (rest giving taken rest.answer.work (a ∷ rest.answer.addresses))
-  take_is = take_landing n k g s a (ap (λ (r : Run Found). r.answer) spares_are) ∙ rw spares_are
+  take_is : take_from (suc n) k g s ≡ run (Some a) first.log 1 first.after then (rest giving taken rest.answer.work (a ∷ rest.answer.addresses))
+  take_is = take_landing n k g s a (ap (λ (r : Run (Option ℕ)). r.answer) spares_are) ∙ rw spares_are
 
   module _ (calm : CalmTake n left first.after rest) where
     takes : TakeLaws n (k + 1) left first.after rest

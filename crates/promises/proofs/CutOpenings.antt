@@ -5,6 +5,7 @@
 --   torn_alive, torn_exact    a chip left by a cut has life in those cells; and if the mark is there, it holds count 0 exactly
 --   cut_opening               so the next open answers 0
 --   cut_blank                 in document 02's words, of a blank image
+use Rattle.std.proofs.Common.{Ok}
 use Prim.Native.Nat.{ℕ, ◌^◌, ◌≤◌, ◌<◌}
 use mathlib.Core.Path.{◌≡◌, refl, sym, ap, ◌∙◌}
 use mathlib.Core.Bool.{Bool, true, false, true≢false}
@@ -18,13 +19,10 @@ use Rattle.cells.specs.Log.{write_all}
 use Rattle.cells.specs.Cut.{Cut, Cut.whole, tear}
 use Rattle.cells.proofs.TornLogs.{Torn, TornAt, tear_torn, torn_kept, torn_life, torn_append}
 use Rattle.counter.specs.declared.places.Places.{Places}
-use Rattle.counter.specs.declared.verdict.Verdict.{Verdict}
-use Rattle.counter.specs.declared.verdict.Verdict.TheVariants.{Good}
-use Rattle.counter.specs.declared.verdict.Work.{Work}
 use Rattle.counter.specs.declared.layout.Layout.{Layout}
 use Rattle.counter.specs.Layout.{two, slots}
 use Rattle.counter.specs.Map.{map_in, marked}
-use Rattle.counter.specs.Verdict.{answer, ◌ending_in◌}
+use Rattle.counter.specs.Verdict.{answer, ◌ending_in◌, Verdict, Work, read_as}
 use Rattle.counter.specs.Doors.{open_run, open_of}
 use Rattle.counter.specs.Trials.{cut_outcome, trial_open_of}
 use Rattle.counter.proofs.SoundPointers.{sound_same}
@@ -46,18 +44,18 @@ pub record OpensAtZero (layout : Layout) (p : Places) (s : Chip) : Type 0 where
 
 module _ {layout : Layout} {p : Places} {s : Chip} where
   -- as the work of open ends
-  at_zero : (open_run layout p s).answer ≡ Good 0 (pos 0) → (open_run layout p s).tried ≡ 0 → Exact layout p 0 (open_run layout p s).after → OpensAtZero layout p s
+  at_zero : (open_run layout p s).answer ≡ read_as 0 (pos 0) → (open_run layout p s).tried ≡ 0 → Exact layout p 0 (open_run layout p s).after → OpensAtZero layout p s
   at_zero good none exact =
       record {
         says = rw (open_is layout p s, good_says (open_run layout p s) good, none);
         leaves = rw (open_is layout p s) exact;
       }
 
-  pub exact_reopens : {c : ℕ} → 1 ≤ layout.copies → c < 2 ^ 32 → Exact layout p c s → open_run layout p s ≡ still (Good c (pos 0)) s
+  pub exact_reopens : {c : ℕ} → 1 ≤ layout.copies → c < 2 ^ 32 → Exact layout p c s → open_run layout p s ≡ still (read_as c (pos 0)) s
   exact_reopens {c} one small exact =
       open_again layout p s (marked_opened layout p s exact.marks)
       ∙ settling_good layout p s _ c (pos 0) (exact_verdict exact one small)
-      ∙ ap (λ (r : Run Work). r ending_in Good c (pos 0)) (exact_still exact)
+      ∙ ap (λ (r : Run Work). r ending_in read_as c (pos 0)) (exact_still exact)
 
   exact_opens : 1 ≤ layout.copies → Exact layout p 0 s → OpensAtZero layout p s
   exact_opens one exact =

@@ -6,6 +6,7 @@
 --   CutStep, cut_step         so ends a step with power for fewer writes than there are copies
 --   torn_life, torn_stays     the cells of the changed nibble have life then, and the other slots hold their codes
 --   Reopens, torn_reopens     what open makes of it, where it reads as the count before the step or after it
+use Rattle.std.proofs.Common.{Ok}
 use Prim.Native.Nat.{ℕ, zero, suc, ◌+◌, ◌-◌, ◌*◌, ◌/◌, ◌%◌, ◌^◌, ◌≤◌, ◌<◌}
 use mathlib.Core.Path.{◌≡◌, refl, sym, ap, ◌∙◌}
 use mathlib.Core.Bool.{true}
@@ -23,12 +24,11 @@ use Rattle.cells.specs.Cut.{Cut, Cut.lost, tear, cut}
 use Rattle.cells.proofs.Writes.{kept_same, kept_then, kept_wider, write_laws}
 use Rattle.cells.proofs.CutLogs.{tear_here, tear_later}
 use Rattle.counter.specs.declared.places.Places.{Places}
-use Rattle.counter.specs.declared.verdict.Verdict.TheVariants.{Good}
 use Rattle.counter.specs.declared.layout.Layout.{Layout}
 use Rattle.counter.specs.Layout.{slots}
 use Rattle.counter.specs.Map.{map_in, marked, pointer_of}
 use Rattle.counter.specs.Reading.{verdict_of}
-use Rattle.counter.specs.Verdict.{answer, outcome_of, ending}
+use Rattle.counter.specs.Verdict.{answer, outcome_of, ending, read_as}
 use Rattle.counter.specs.Store.{slot_code, store}
 use Rattle.counter.specs.Doors.{last_count, open_run, step_run, open_of}
 use Rattle.counter.specs.Trials.{cut_outcome, trial_step_of}
@@ -276,11 +276,11 @@ module _ {layout : Layout} {p : Places} {c : ℕ} {s : Chip} (clean : Clean layo
           go (yes e) = let q : changed_slot c (j / 8) ≡ j = omega arith in rw q at (torn_life (j / 8) (omega arith))
           go (no n) = absurd (other (torn_stays j (omega arith) n ∙ code_either j n))
 
-      pub torn_reopens : {lag : ℤ} → verdict_of layout p t.cells ≡ Good d lag → Reopens layout p d lag t
+      pub torn_reopens : {lag : ℤ} → verdict_of layout p t.cells ≡ read_as d lag → Reopens layout p d lag t
       torn_reopens {lag} reads =
           let on = open_on layout p t d lag (chip_verdict_lem layout p t torn.ready.paired ∙ reads) in
           let calm : Calm layout p (slots layout) 0 d t (store layout p d t) = calm_store layout p d t torn.ready torn.sound alive in
-          let well : (open_run layout p t).answer ≡ Good d lag = rw on (ap (ending (Good d lag)) calm.done) in
+          let well : (open_run layout p t).answer ≡ read_as d lag = rw on (ap (ending (read_as d lag)) calm.done) in
           let none : (open_run layout p t).tried ≡ 0 = rw on calm.tried in
           let stored : Exact layout p d (open_run layout p t).after = rw on (exact_stored torn.ready d torn.marks torn.sound calm.done) in
           rw_open (good_says (open_run layout p t) well ∙ rw none) (rw on calm.map) stored

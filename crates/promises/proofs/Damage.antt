@@ -4,6 +4,7 @@
 --   damaged_reads    what is read then; of the counts of mended bits it says nothing
 --   erased_reads     the whole answer, where any one data cell was erased: nothing was mended
 --   open_outlives, step_outlives   damaged_reads, of what a good open or step left
+use Rattle.std.proofs.Common.{Ok}
 use Prim.Native.Nat.{ℕ, ◌+◌, ◌*◌, ◌%◌, ◌^◌, ◌≤◌, ◌<◌}
 use mathlib.Core.Path.{◌≡◌, ap, ◌∙◌}
 use mathlib.Core.Bool.{true, false}
@@ -23,13 +24,12 @@ use Rattle.code.proofs.DamageLaws.{Shows, Shows.code, Shows.erasure, code_whole,
 use Rattle.cells.specs.Chip.{Chip, cell_at, Kept}
 use Rattle.cells.proofs.Writes.{kept_wider}
 use Rattle.counter.specs.declared.places.Places.{Places}
-use Rattle.counter.specs.declared.verdict.Verdict.TheVariants.{Good}
 use Rattle.counter.specs.declared.layout.Layout.{Layout}
 use Rattle.counter.specs.Layout.{slots}
 use Rattle.counter.specs.Map.{map_in, pointer_of}
 use Rattle.counter.specs.Reading.{weigh, verdict_of}
 use Rattle.counter.specs.Mended.{bits_of}
-use Rattle.counter.specs.Verdict.{answer}
+use Rattle.counter.specs.Verdict.{answer, read_as}
 use Rattle.counter.specs.Doors.{open_of, step_of, read_of, read_answer_of}
 use Rattle.counter.proofs.SoundPointers.{Inside}
 use Rattle.counter.proofs.Ready.{pointers, ready_kept, map_kept}
@@ -66,7 +66,7 @@ module _ {layout : Layout} {p : Places} {c : ℕ} {s t : Chip} (exact : Exact la
           spared = λ n m. let (copy, l, whole) = damaged.spared n m in (copy, l, (slot_reads (8 * copy + n) (omega arith) whole).0);
         }
 
-    damaged_verdict : verdict_of layout p t.cells ≡ Good c (pos 0)
+    damaged_verdict : verdict_of layout p t.cells ≡ read_as c (pos 0)
     damaged_verdict =
         read_weighed (ready_kept exact.ready damaged.kept) (rw map_same exact.marks) (rw map_same exact.sound)
         ∙ ap (λ (map : List ℕ). weigh layout (λ k. cell_at t (pointer_of map k))) map_same ∙ weigh_legible layout small legible

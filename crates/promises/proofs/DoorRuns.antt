@@ -2,6 +2,7 @@
 --   Comes                     refused with nothing touched, and not for what storing is, stopped, or good with an exact chip
 --   DoorLaws                  where a door's work writes, and how it ends
 --   open_laws, step_laws      they hold of open and of step
+use Rattle.std.proofs.Common.{Ok, Err}
 use Prim.Native.Nat.{ℕ, ◌^◌, ◌<◌}
 use mathlib.Core.Path.{◌≡◌, refl, sym, ap, ◌∙◌}
 use mathlib.Core.Bool.{Bool, true, false}
@@ -15,12 +16,8 @@ use Rattle.cells.proofs.Logs.{within_still, within_giving, within_then}
 use Rattle.counter.specs.declared.places.Places.{Places}
 use Rattle.counter.specs.declared.verdict.Refusal.{Refusal}
 use Rattle.counter.specs.declared.verdict.Refusal.TheVariants.{LastCount, NoSpare, MapByte}
-use Rattle.counter.specs.declared.verdict.Verdict.{Verdict}
-use Rattle.counter.specs.declared.verdict.Verdict.TheVariants.{Good, Refused}
-use Rattle.counter.specs.declared.verdict.Work.{Work}
-use Rattle.counter.specs.declared.verdict.Work.TheVariants.{Done}
 use Rattle.counter.specs.declared.layout.Layout.{Layout}
-use Rattle.counter.specs.Verdict.{on_good, ending, ◌ending_in◌, ◌and_then◌}
+use Rattle.counter.specs.Verdict.{on_good, ending, ◌ending_in◌, ◌and_then◌, Verdict, Work, read_as, complete}
 use Rattle.counter.specs.Store.{store}
 use Rattle.counter.specs.Opening.{first_opening}
 use Rattle.counter.specs.Doors.{last_count, chip_verdict, open_run, step_run}
@@ -33,10 +30,10 @@ use Rattle.counter.proofs.GoodVerdicts.{VerdictGood, verdict_good, of_storing, v
 use Rattle.counter.proofs.DoorViews.{unopened, unopened_ready, open_first, open_again, step_refused, step_last, step_on}
 
 pub data Comes (layout : Layout) (p : Places) (s : Chip) (r : Run Verdict) : Type 0 where
-  untouched : (why : Refusal) → of_storing why ≡ false → r ≡ still (Refused why) s → Comes layout p s r
-  spareless : (k : ℕ) → r.answer ≡ Refused (NoSpare k) → Comes layout p s r
-  mapless : (a : ℕ) → r.answer ≡ Refused (MapByte a) → Comes layout p s r
-  good : (c : ℕ) (lag : ℤ) → r.answer ≡ Good c lag → c < 2 ^ 32 → Exact layout p c r.after → Comes layout p s r
+  untouched : (why : Refusal) → of_storing why ≡ false → r ≡ still (Err why) s → Comes layout p s r
+  spareless : (k : ℕ) → r.answer ≡ Err (NoSpare k) → Comes layout p s r
+  mapless : (a : ℕ) → r.answer ≡ Err (MapByte a) → Comes layout p s r
+  good : (c : ℕ) (lag : ℤ) → r.answer ≡ read_as c lag → c < 2 ^ 32 → Exact layout p c r.after → Comes layout p s r
 
 pub record DoorLaws (layout : Layout) (p : Places) (s : Chip) (r : Run Verdict) : Type 0 where
   pub within : Within (Own layout p) s r
@@ -46,20 +43,20 @@ pub record DoorLaws (layout : Layout) (p : Places) (s : Chip) (r : Run Verdict) 
 pub record Leaves (layout : Layout) (p : Places) (c : ℕ) (s : Chip) (r : Run Work) : Type 0 where
   pub within : Within (Own layout p) s r
   pub ended : Ended r.answer
-  pub exact : r.answer ≡ Done → Exact layout p c r.after
+  pub exact : r.answer ≡ complete → Exact layout p c r.after
 
 module _ {layout : Layout} {p : Places} {s : Chip} where
-  refused_laws : (why : Refusal) → of_storing why ≡ false → DoorLaws layout p s (still (Refused why) s)
+  refused_laws : (why : Refusal) → of_storing why ≡ false → DoorLaws layout p s (still (Err why) s)
   refused_laws why reads = record { within = within_still _ s; comes = untouched why reads refl }
 
   -- a call that is its storing
-  ending_laws : {c : ℕ} (lag : ℤ) (r : Run Work) → c < 2 ^ 32 → Leaves layout p c s r → DoorLaws layout p s (r ending_in Good c lag)
+  ending_laws : {c : ℕ} (lag : ℤ) (r : Run Work) → c < 2 ^ 32 → Leaves layout p c s r → DoorLaws layout p s (r ending_in read_as c lag)
   ending_laws {c} lag r small leaves = record { within = within_giving _ leaves.within; comes = go leaves.ended }
     where
-      go : Ended r.answer → Comes layout p s (r ending_in Good c lag)
-      go (done e) = good c lag (ap (ending (Good c lag)) e) small (leaves.exact e)
-      go (roomless k e) = spareless k (ap (ending (Good c lag)) e)
-      go (unmapped a e) = mapless a (ap (ending (Good c lag)) e)
+      go : Ended r.answer → Comes layout p s (r ending_in read_as c lag)
+      go (done e) = good c lag (ap (ending (read_as c lag)) e) small (leaves.exact e)
+      go (roomless k e) = spareless k (ap (ending (read_as c lag)) e)
+      go (unmapped a e) = mapless a (ap (ending (read_as c lag)) e)
 
   store_leaves : {c d : ℕ} → VerdictGood layout p d s → Leaves layout p c s (store layout p c s)
   store_leaves {c} v =
@@ -96,9 +93,9 @@ module _ {layout : Layout} {p : Places} {s : Chip} where
 -- ## Open
 
 module _ (layout : Layout) (p : Places) (s : Chip) where
-  again : (v : Verdict) → chip_verdict layout p s ≡ v → DoorLaws layout p s (on_good v (λ c lag. store layout p c s ending_in Good c lag) s)
-  again (Good c lag) e = let v = (verdict_good layout p s e).1 in ending_laws lag (store layout p c s) v.small (store_leaves v)
-  again (Refused why) e = refused_laws why (verdict_reads layout p s e)
+  again : (v : Verdict) → chip_verdict layout p s ≡ v → DoorLaws layout p s (on_good v (λ c lag. store layout p c s ending_in read_as c lag) s)
+  again (Ok (c, lag)) e = let v = (verdict_good layout p s e).1 in ending_laws lag (store layout p c s) v.small (store_leaves v)
+  again (Err why) e = refused_laws why (verdict_reads layout p s e)
 
   pub open_laws : DoorLaws layout p s (open_run layout p s)
   open_laws = go (unopened layout p s) refl
@@ -113,7 +110,7 @@ module _ (layout : Layout) (p : Places) (s : Chip) where
   pub step_laws : DoorLaws layout p s (step_run layout p s)
   step_laws = go (chip_verdict layout p s) refl
     where
-      counted : (c : ℕ) (lag : ℤ) → chip_verdict layout p s ≡ Good c lag → Dec (c ≡ last_count) → DoorLaws layout p s (step_run layout p s)
+      counted : (c : ℕ) (lag : ℤ) → chip_verdict layout p s ≡ read_as c lag → Dec (c ≡ last_count) → DoorLaws layout p s (step_run layout p s)
       counted c lag e (yes l) = rw (step_last layout p s c lag e l) (refused_laws LastCount refl)
       counted c lag e (no n) =
           let v = (verdict_good layout p s e).1 in
@@ -121,5 +118,5 @@ module _ (layout : Layout) (p : Places) (s : Chip) where
           rw (step_on layout p s c lag e n) (ending_laws lag _ (omega arith) (two_leave v))
 
       go : (v : Verdict) → chip_verdict layout p s ≡ v → DoorLaws layout p s (step_run layout p s)
-      go (Good c lag) e = counted c lag e (ℕ_discrete c last_count)
-      go (Refused why) e = rw (step_refused layout p s why e) (refused_laws why (verdict_reads layout p s e))
+      go (Ok (c, lag)) e = counted c lag e (ℕ_discrete c last_count)
+      go (Err why) e = rw (step_refused layout p s why e) (refused_laws why (verdict_reads layout p s e))

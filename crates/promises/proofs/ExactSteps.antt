@@ -4,6 +4,7 @@
 --   step_stores               a step on an exact chip is the store of the next count
 --   StepBound, step_bound     what it asks of area cells, against the room
 --   StepCalm, step_calm       what it does where the cells that change have life
+use Rattle.std.proofs.Common.{Ok, Err}
 use Prim.Native.Nat.{ℕ, zero, suc, ◌+◌, ◌-◌, ◌*◌, ◌/◌, ◌%◌, ◌^◌, ◌≤◌, ◌<◌}
 use mathlib.Core.Path.{◌≡◌, refl, ap, ◌∙◌}
 use mathlib.Core.Bool.{cond}
@@ -19,14 +20,10 @@ use Rattle.cells.specs.Chip.{Chip, life_at}
 use Rattle.cells.specs.Run.{Run, Write, write, still}
 use Rattle.cells.specs.Log.{asked_in, asked_of}
 use Rattle.counter.specs.declared.places.Places.{Places}
-use Rattle.counter.specs.declared.verdict.Verdict.{Verdict}
-use Rattle.counter.specs.declared.verdict.Verdict.TheVariants.{Good}
-use Rattle.counter.specs.declared.verdict.Work.{Work}
-use Rattle.counter.specs.declared.verdict.Work.TheVariants.{Done, Stopped}
 use Rattle.counter.specs.declared.layout.Layout.{Layout}
 use Rattle.counter.specs.Layout.{slots}
 use Rattle.counter.specs.Map.{map_in}
-use Rattle.counter.specs.Verdict.{ending, ◌ending_in◌, ◌and_then◌}
+use Rattle.counter.specs.Verdict.{ending, ◌ending_in◌, ◌and_then◌, Verdict, Work, read_as, complete}
 use Rattle.counter.specs.Store.{slot_code, store}
 use Rattle.counter.specs.Doors.{last_count, step_run}
 use Rattle.counter.proofs.Ready.{pointers, data_of}
@@ -96,21 +93,21 @@ module _ (c : ℕ) (small : c + 1 < 2 ^ 32) (pointer : ℕ → ℕ) where
 -- ## A step on an exact chip
 
 -- a call that ends well was done
-ending_done : {d : ℕ} {lag : ℤ} (v : Verdict) (w : Work) → ending v w ≡ Good d lag → w ≡ Done
-ending_done v Done e = refl
-ending_done v (Stopped why) e = not_good e
+ending_done : {d : ℕ} {lag : ℤ} (v : Verdict) (w : Work) → ending v w ≡ read_as d lag → w ≡ complete
+ending_done v (Ok tt) e = refl
+ending_done v (Err why) e = not_good e
 
 -- what it asks of area cells: in any case no more than one write a copy and the room; and, where it is good, what it
 -- asks and the room it leaves are no more than that
 pub record StepBound (layout : Layout) (p : Places) (s : Chip) : Type 0 where
   pub bounded : asked_in p.start p.end (step_run layout p s).log ≤ layout.copies + room_of layout p s
   pub paid :
-      (d : ℕ) (lag : ℤ) → (step_run layout p s).answer ≡ Good d lag
+      (d : ℕ) (lag : ℤ) → (step_run layout p s).answer ≡ read_as d lag
       → asked_in p.start p.end (step_run layout p s).log + room_of layout p (step_run layout p s).after ≤ layout.copies + room_of layout p s
 
 -- it answers, tries no spare, keeps the map, and writes the cell of the changed nibble in each copy, in order, and no other
 pub record StepCalm (layout : Layout) (p : Places) (c : ℕ) (s : Chip) : Type 0 where
-  pub answers : (step_run layout p s).answer ≡ Good (c + 1) (pos 0)
+  pub answers : (step_run layout p s).answer ≡ read_as (c + 1) (pos 0)
   pub tried : (step_run layout p s).tried ≡ 0
   pub map : map_in layout p (step_run layout p s).after.cells ≡ map_in layout p s.cells
   pub log : (step_run layout p s).log ≡ step_writes layout.copies 0 (pointers layout p s) c
@@ -122,13 +119,13 @@ module _ {layout : Layout} {p : Places} {c : ℕ} {s : Chip} (one : 1 ≤ layout
   abbrev next : Run Work
   next = store layout p (c + 1) s
 
-  pub step_stores : step_run layout p s ≡ next ending_in Good (c + 1) (pos 0)
+  pub step_stores : step_run layout p s ≡ next ending_in read_as (c + 1) (pos 0)
   step_stores =
       step_on layout p s c (pos 0) (exact_verdict exact one (omega arith)) (λ e. omega arith)
-      ∙ ap (λ (r : Run Work). (r and_then store layout p (c + 1)) ending_in Good (c + 1) (pos 0)) (exact_still exact)
+      ∙ ap (λ (r : Run Work). (r and_then store layout p (c + 1)) ending_in read_as (c + 1) (pos 0)) (exact_still exact)
       ∙ after
     where
-      after : ◌≡◌ {A = Run Verdict} ((still Done s and_then store layout p (c + 1)) ending_in Good (c + 1) (pos 0)) (store layout p (c + 1) s ending_in Good (c + 1) (pos 0))
+      after : ◌≡◌ {A = Run Verdict} ((still complete s and_then store layout p (c + 1)) ending_in read_as (c + 1) (pos 0)) (store layout p (c + 1) s ending_in read_as (c + 1) (pos 0))
       after = rw zero-add
 
   laws : StoreLaws layout p (slots layout) 0 (c + 1) s next
@@ -141,11 +138,11 @@ module _ {layout : Layout} {p : Places} {c : ℕ} {s : Chip} (one : 1 ≤ layout
   step_bound =
       rw_bound
       (let h = laws.bounded in omega (arith, cost))
-      (λ d lag e. let h = (laws.stored (ending_done (Good (c + 1) (pos 0)) next.answer e)).paid in omega (arith, cost))
+      (λ d lag e. let h = (laws.stored (ending_done (read_as (c + 1) (pos 0)) next.answer e)).paid in omega (arith, cost))
     where
       rw_bound :
           asked_in p.start p.end next.log ≤ layout.copies + room_of layout p s
-          → ((d : ℕ) (lag : ℤ) → ending (Good (c + 1) (pos 0)) next.answer ≡ Good d lag → asked_in p.start p.end next.log + room_of layout p next.after ≤ layout.copies + room_of layout p s)
+          → ((d : ℕ) (lag : ℤ) → ending (read_as (c + 1) (pos 0)) next.answer ≡ read_as d lag → asked_in p.start p.end next.log + room_of layout p next.after ≤ layout.copies + room_of layout p s)
           → StepBound layout p s
       rw_bound bounded paid = record { bounded = rw step_stores bounded; paid = rw step_stores paid }
 
@@ -177,7 +174,7 @@ module _ {layout : Layout} {p : Places} {c : ℕ} {s : Chip} (one : 1 ≤ layout
     pub step_calm : StepCalm layout p c s
     step_calm =
         record {
-          answers = rw step_stores (ap (ending (Good (c + 1) (pos 0))) calm.done);
+          answers = rw step_stores (ap (ending (read_as (c + 1) (pos 0))) calm.done);
           tried = rw step_stores calm.tried;
           map = rw step_stores calm.map;
           log = rw step_stores (log_is ∙ step_log c (omega arith) (pointers layout p s) layout.copies 0);

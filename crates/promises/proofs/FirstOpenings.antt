@@ -4,6 +4,7 @@
 --   Pointed                   all addresses taken and all pointers put, whether the mark is there or not
 --   OpeningParts, opening_parts  its writes: those of addresses and pointers, none of them in the mark's cells, then the mark's
 --   OpenCalm, open_calm       it answers, tries no spare, and asks at most one write of any cell
+use Rattle.std.proofs.Common.{Ok}
 use Prim.Native.Nat.{ℕ, ◌≤◌, ◌<◌}
 use mathlib.Core.Path.{◌≡◌, sym, ap, ◌∙◌}
 use mathlib.Core.Bool.{false}
@@ -20,14 +21,11 @@ use Rattle.cells.proofs.Logs.{write_all_append, every_append, every_wider, asked
 use Rattle.cells.proofs.Rows.{row_laws}
 use Rattle.cells.proofs.AskedOnce.{asked_outside, Once, once_append}
 use Rattle.counter.specs.declared.places.Places.{Places}
-use Rattle.counter.specs.declared.verdict.Verdict.TheVariants.{Good}
-use Rattle.counter.specs.declared.verdict.Work.{Work}
-use Rattle.counter.specs.declared.verdict.Work.TheVariants.{Done}
 use Rattle.counter.specs.declared.layout.Layout.{Layout}
 use Rattle.counter.specs.Layout.{slots}
 use Rattle.counter.specs.Map.{map_in, marked, mark_bytes, offset_of}
 use Rattle.counter.specs.Spares.{whole_area}
-use Rattle.counter.specs.Verdict.{ending, ◌and_then◌}
+use Rattle.counter.specs.Verdict.{ending, ◌and_then◌, Work, read_as, complete}
 use Rattle.counter.specs.Store.{slot_code}
 use Rattle.counter.specs.Opening.{Taken, take_from, put_pointers, put_mark, untried, first_opening}
 use Rattle.counter.specs.Doors.{beginning, open_run}
@@ -68,7 +66,7 @@ pub record OpeningParts (layout : Layout) (p : Places) (s : Chip) : Type 0 where
   pub pointed : Pointed layout p (write_all early s)
 
 pub record OpenCalm (layout : Layout) (p : Places) (s : Chip) : Type 0 where
-  pub answers : (open_run layout p s).answer ≡ Good 0 (pos 0)
+  pub answers : (open_run layout p s).answer ≡ read_as 0 (pos 0)
   pub tried : (open_run layout p s).tried ≡ 0
   pub exact : Exact layout p 0 (open_run layout p s).after
   pub once : Once (open_run layout p s).log
@@ -137,7 +135,7 @@ module _ {layout : Layout} {p : Places} {s : Chip} (alive : UnmarkedAlive 1 layo
   opening_is : first_opening layout p s ≡ (untried taking giving taking.answer.work) then mapping
   opening_is = opening_on layout p s taken_calm.done
 
-  done : (first_opening layout p s).answer ≡ Done
+  done : (first_opening layout p s).answer ≡ complete
   done = rw opening_is mapping_calm.done
 
   opening_once : Once (first_opening layout p s).log
@@ -153,7 +151,7 @@ module _ {layout : Layout} {p : Places} {s : Chip} (alive : UnmarkedAlive 1 layo
   pub open_calm : OpenCalm layout p s
   open_calm =
       record {
-        answers = rw opens_first (ap (ending (Good 0 (pos 0))) done);
+        answers = rw opens_first (ap (ending (read_as 0 (pos 0))) done);
         tried = rw opens_first (opening_laws alive.ready).tried;
         exact = rw opens_first (exact_opened alive.ready done);
         once = rw opens_first opening_once;

@@ -2,6 +2,8 @@
 --   refused_bits              a refusal returns eight zeros
 --   mended_cells, bits_add    else the eight counts add up to the number of data cells that were mended
 --   bits_most                 so they add up to no more than there are data cells
+use Rattle.counter.specs.Verdict.{Verdict}
+use Rattle.std.proofs.Common.{Ok, Err}
 use Prim.Native.Nat.{ℕ, ◌≤◌, ◌<◌}
 use mathlib.Core.Path.{◌≡◌, refl, ap, ◌∙◌}
 use mathlib.Core.List.{List, sum}
@@ -12,8 +14,6 @@ use Rattle.code.specs.Mended.{how_many, no_bits}
 use Rattle.code.proofs.ReadingLaws.{mended_flips}
 use Rattle.code.proofs.MendedLaws.{total, is_mended, many_most, counts_add}
 use Rattle.counter.specs.declared.places.Places.{Places}
-use Rattle.counter.specs.declared.verdict.Verdict.{Verdict}
-use Rattle.counter.specs.declared.verdict.Verdict.TheVariants.{Good, Refused}
 use Rattle.counter.specs.declared.layout.Layout.{Layout}
 use Rattle.counter.specs.Layout.{slots}
 use Rattle.counter.specs.Map.{map_in, pointer_of}
@@ -32,8 +32,8 @@ module _ (layout : Layout) (p : Places) (cells : List ℕ) where
   refused_bits refused = go (verdict_of layout p cells) refl
     where
       go : (v : Verdict) → verdict_of layout p cells ≡ v → bits_of layout p cells ≡ no_bits
-      go (Good c lag) e = absurd (refused (rw (read_good layout p cells e) refl))
-      go (Refused why) e = bits_refused layout p cells e
+      go (Ok (c, lag)) e = absurd (refused (rw (read_good layout p cells e) refl))
+      go (Err why) e = bits_refused layout p cells e
 
   -- of an image of bytes
   module _ (bytes : (a : ℕ) → get_or cells a 0 < 256) where
@@ -48,5 +48,5 @@ module _ (layout : Layout) (p : Places) (cells : List ℕ) where
     bits_most = go (verdict_of layout p cells) refl
       where
         go : (v : Verdict) → verdict_of layout p cells ≡ v → total (bits_of layout p cells) ≤ slots layout
-        go (Good c lag) e = rw (bits_add (rw (read_good layout p cells e) refl)) (many_most (slots layout) _)
-        go (Refused why) e = rw (bits_refused layout p cells e) (omega arith)
+        go (Ok (c, lag)) e = rw (bits_add (rw (read_good layout p cells e) refl)) (many_most (slots layout) _)
+        go (Err why) e = rw (bits_refused layout p cells e) (omega arith)

@@ -8,6 +8,8 @@
 --   slot_roomless             storing a slot ends in "no spare" exactly where its cell and every spare of its kind
 --                             have life 0 and another byte
 --   take_roomless             so does taking an address for a slot in a first opening, over the addresses taken so far
+use Rattle.counter.specs.Verdict.{Work, complete}
+use Rattle.std.proofs.Common.{Option, None, Ok, Err}
 use Prim.Native.Nat.{ℕ, ◌+◌, ◌≤◌, ◌<◌}
 use mathlib.Core.Path.{◌≡◌, refl, sym, ap, ◌∙◌}
 use mathlib.Core.Bool.{Bool, true, false, true≢false}
@@ -17,8 +19,6 @@ use native.Mathlib.Nat.{add-zero, zero-add}
 use native.Mathlib.Omega.{arith}
 use borrow.Author.Tests.{ne_eqb}
 use Rattle.code.specs.Codes.{code_of}
-use Rattle.cells.specs.declared.row.Found.{Found}
-use Rattle.cells.specs.declared.row.Found.TheVariants.{Nowhere}
 use Rattle.cells.specs.Chip.{Chip, Paired}
 use Rattle.cells.specs.Run.{Write, write, Run, run, still, ◌then◌, ◌giving◌}
 use Rattle.cells.specs.Put.{put_at}
@@ -28,8 +28,6 @@ use Rattle.cells.proofs.Walks.{asks_each}
 use Rattle.cells.proofs.Puts.{Refuses, PutLaws, put_laws}
 use Rattle.counter.specs.declared.places.Places.{Places}
 use Rattle.counter.specs.declared.spares.Gap.{Gap}
-use Rattle.counter.specs.declared.verdict.Work.{Work}
-use Rattle.counter.specs.declared.verdict.Work.TheVariants.{Done, Stopped}
 use Rattle.counter.specs.declared.verdict.Refusal.TheVariants.{NoSpare, MapByte}
 use Rattle.counter.specs.declared.layout.Layout.{Layout}
 use Rattle.counter.specs.Layout.{slots}
@@ -55,7 +53,7 @@ pub record Full (layout : Layout) (p : Places) (k b : ℕ) (s : Chip) : Type 0 w
 abbrev pub all_asked : Layout → Places → ℕ → ℕ → Chip → Run Work
 all_asked layout p k b s =
     run
-    (Stopped (NoSpare k))
+    (Err (NoSpare k))
     (write (pointers layout p s k) b ∷ asked_spares k (gap_at layout p s) b)
     (spares_of (kind_of k) (gap_at layout p s))
     s
@@ -115,7 +113,7 @@ module _ {layout : Layout} {p : Places} {s : Chip} (ready : Ready layout p s) (k
   between = between_map layout p (pointers layout p s)
 
   -- a pointer that is put does not end so
-  mapped_ends : (j : ℕ) (w : Work) → (w ≡ Done) ⊎ ((x : ℕ) × (w ≡ Stopped (MapByte x))) → w ≡ Stopped (NoSpare j) → ⊥
+  mapped_ends : (j : ℕ) (w : Work) → (w ≡ complete) ⊎ ((x : ℕ) × (w ≡ Err (MapByte x))) → w ≡ Err (NoSpare j) → ⊥
   mapped_ends j w (inl d) e = true≢false cc
   mapped_ends j w (inr (x, d)) e = true≢false cc
 
@@ -126,24 +124,24 @@ module _ {layout : Layout} {p : Places} {s : Chip} (ready : Ready layout p s) (k
 
   -- what a move comes to that ends so
   abbrev missed : Run Work
-  missed = run (Stopped (NoSpare k)) (asked_spares k (gap_at layout p s) b) (spares_of (kind_of k) (gap_at layout p s)) s
+  missed = run (Err (NoSpare k)) (asked_spares k (gap_at layout p s) b) (spares_of (kind_of k) (gap_at layout p s)) s
 
   -- a move that ends so names its slot, and has asked every spare of the kind
-  move_only : (j : ℕ) → (move_slot layout p k b s).answer ≡ Stopped (NoSpare j) → (j ≡ k) × (move_slot layout p k b s ≡ missed) × Spareless layout p k b s
+  move_only : (j : ℕ) → (move_slot layout p k b s).answer ≡ Err (NoSpare j) → (j ≡ k) × (move_slot layout p k b s ≡ missed) × Spareless layout p k b s
   move_only j e = go (try_laws k (gap_at layout p s) b s ready.paired).trying
     where
       go : Trying k (gap_at layout p s) b s → (j ≡ k) × (move_slot layout p k b s ≡ missed) × Spareless layout p k b s
       go (missing m) =
           let q = move_missing layout p k b s m.nowhere in
           let same = sym e ∙ ap (λ (r : Run Work). r.answer) q in
-          let comes = q ∙ ap (λ (r : Run Found). r then still (Stopped (NoSpare k)) r.after) m.comes in
+          let comes = q ∙ ap (λ (r : Run (Option ℕ)). r then still (Err (NoSpare k)) r.after) m.comes in
           (cc, rw (comes, append-nil, add-zero), λ a f. m.refused a (spare_free between f))
       go (landing m) = absurd (mapped_ends j _ (pointer_laws (ready_kept ready m.kept) k l m.place).either (sym (landed m) ∙ e))
 
-  move_always : Spareless layout p k b s → (move_slot layout p k b s).answer ≡ Stopped (NoSpare k)
+  move_always : Spareless layout p k b s → (move_slot layout p k b s).answer ≡ Err (NoSpare k)
   move_always f = go (try_laws k (gap_at layout p s) b s ready.paired).trying
     where
-      go : Trying k (gap_at layout p s) b s → (move_slot layout p k b s).answer ≡ Stopped (NoSpare k)
+      go : Trying k (gap_at layout p s) b s → (move_slot layout p k b s).answer ≡ Err (NoSpare k)
       go (missing m) = ap (λ (r : Run Work). r.answer) (move_missing layout p k b s m.nowhere)
       go (landing m) = absurd (m.takes (f m.place (free_spare between m.free)))
 
@@ -152,7 +150,7 @@ module _ {layout : Layout} {p : Places} {s : Chip} (ready : Ready layout p s) (k
 
   -- storing a slot that ends so names that slot, and has asked its own cell and every spare of its kind
   pub slot_only :
-      (j : ℕ) → (store_slot layout p k b s).answer ≡ Stopped (NoSpare j)
+      (j : ℕ) → (store_slot layout p k b s).answer ≡ Err (NoSpare j)
       → (j ≡ k) × (store_slot layout p k b s ≡ all_asked layout p k b s) × Full layout p k b s
   slot_only j e = go (put_at (pointers layout p s k) b s).answer refl
     where
@@ -163,10 +161,10 @@ module _ {layout : Layout} {p : Places} {s : Chip} (ready : Ready layout p s) (k
           let m = move_only j (sym (ap (λ (r : Run Work). r.answer) q) ∙ e) in
           (m.0, rw (q, m.1, zero-add), record { cell = put.failed h; spares = m.2 })
 
-  pub slot_roomless : ((store_slot layout p k b s).answer ≡ Stopped (NoSpare k)) ↔ Full layout p k b s
+  pub slot_roomless : ((store_slot layout p k b s).answer ≡ Err (NoSpare k)) ↔ Full layout p k b s
   slot_roomless = (λ e. (slot_only k e).2, always)
     where
-      always : Full layout p k b s → (store_slot layout p k b s).answer ≡ Stopped (NoSpare k)
+      always : Full layout p k b s → (store_slot layout p k b s).answer ≡ Err (NoSpare k)
       always f =
           let failed = put.worn f.cell.worn ∙ ne_eqb _ b f.cell.other in
           ap (λ (q : Run Work). q.answer) (slot_refused layout p k b s ready.paired failed) ∙ move_always f.spares
@@ -174,7 +172,7 @@ module _ {layout : Layout} {p : Places} {s : Chip} (ready : Ready layout p s) (k
 -- no address is found for slot k exactly where every spare, given the pointers taken so far, refuses the code of 0
 pub take_roomless :
     {k : ℕ} {p : Places} {pointer : ℕ → ℕ} {g : Gap} (s : Chip) → Paired s → Between k p pointer g
-    → ((try_spares k g (code_of 0) s).answer ≡ Nowhere) ↔ ((a : ℕ) → Spare (kind_of k) k p pointer a → Refuses a (code_of 0) s)
+    → ((try_spares k g (code_of 0) s).answer ≡ None) ↔ ((a : ℕ) → Spare (kind_of k) k p pointer a → Refuses a (code_of 0) s)
 take_roomless {k} {p} {pointer} {g} s paired between =
     let both = try_nowhere k g (code_of 0) s paired in
     (λ e a f. both.0 e a (spare_free between f), λ f. both.1 (λ a free. f a (free_spare between free)))

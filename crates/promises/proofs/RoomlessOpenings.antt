@@ -6,6 +6,7 @@
 --   spares_giving             the same with another answer
 --   spares_each               every such spare was asked
 --   opening_tried             a first opening that is stopped so ends in asking those that the addresses taken so far leave
+use Rattle.std.proofs.Common.{Ok, Err}
 use Prim.Native.Nat.{ℕ, zero, suc, ◌+◌, ◌≤◌, ◌<◌}
 use mathlib.Core.Path.{◌≡◌, sym, ap, ap₂, ◌∙◌}
 use mathlib.Core.Bool.{true≢false}
@@ -24,14 +25,12 @@ use Rattle.cells.proofs.Logs.{asked_append, within_kept}
 use Rattle.cells.proofs.Puts.{Refuses}
 use Rattle.counter.specs.declared.places.Places.{Places}
 use Rattle.counter.specs.declared.spares.Gap.{Gap}
-use Rattle.counter.specs.declared.verdict.Work.{Work}
-use Rattle.counter.specs.declared.verdict.Work.TheVariants.{Done, Stopped}
 use Rattle.counter.specs.declared.verdict.Refusal.TheVariants.{NoSpare}
 use Rattle.counter.specs.declared.layout.Layout.{Layout}
 use Rattle.counter.specs.Layout.{slots}
 use Rattle.counter.specs.Slots.{kind_of}
 use Rattle.counter.specs.Spares.{gap, whole_area, narrow, gap_to}
-use Rattle.counter.specs.Verdict.{◌and_then◌}
+use Rattle.counter.specs.Verdict.{◌and_then◌, Work, complete}
 use Rattle.counter.specs.Store.{try_spares}
 use Rattle.counter.specs.Opening.{Taken, taken, take_from, put_pointers, put_mark, first_opening}
 use Rattle.counter.proofs.Gaps.{Between, between_none, between_more, between_gap, between_unique, Spare, spare_free}
@@ -54,7 +53,7 @@ Bare k p pointer s = (a : ℕ) → Spare (kind_of k) k p pointer a → Refuses a
 -- the slots before k took their addresses, and then every spare that these leave for slot k refuses the code of 0
 pub record OpeningFull (layout : Layout) (p : Places) (k : ℕ) (s : Chip) : Type 0 where
   pub inside : k < slots layout
-  pub before : (take_from k 0 (whole_area p) s).answer.work ≡ Done
+  pub before : (take_from k 0 (whole_area p) s).answer.work ≡ complete
   pub full : Bare k p (taken_to p s k) (take_from k 0 (whole_area p) s).after
 
 -- at the end of the work's log the code of 0 was asked of every spare that the pointers of the slots before k leave for slot k, in
@@ -92,27 +91,27 @@ Listed k addresses pointer = (j : ℕ) → j < length addresses → pointer (k +
 
 take_always :
     (i m k : ℕ) (g : Gap) (s : Chip) (p : Places) (pointer : ℕ → ℕ) → i < m → Paired s
-    → (take_from i k g s).answer.work ≡ Done
+    → (take_from i k g s).answer.work ≡ complete
     → Listed k (take_from i k g s).answer.addresses pointer
     → Between k p pointer g
     → Bare (k + i) p pointer (take_from i k g s).after
-    → (take_from m k g s).answer.work ≡ Stopped (NoSpare (k + i))
+    → (take_from m k g s).answer.work ≡ Err (NoSpare (k + i))
 take_always i zero k g s p pointer l paired e at between bare = absurd (omega arith)
 take_always zero (suc m) k g s p pointer l paired e at between bare =
     let here : Bare k p pointer s = rw (take_none k g s, add-zero) at bare in
-    ap (λ (r : Run Taken). r.answer.work) (take_missing m k g s ((take_roomless s paired between).1 here)) ∙ ap (λ (j : ℕ). Stopped (NoSpare j)) (sym (add-zero k))
+    ap (λ (r : Run Taken). r.answer.work) (take_missing m k g s ((take_roomless s paired between).1 here)) ∙ ap (λ (j : ℕ). Err (NoSpare j)) (sym (add-zero k))
 take_always (suc i) (suc m) k g s p pointer l paired e at between bare = go (take_always i m (k + 1)) (try_laws k g (code_of 0) s paired).trying
   where
     Later : Type 0
     Later =
         (g : Gap) (s : Chip) (p : Places) (pointer : ℕ → ℕ) → i < m → Paired s
-        → (take_from i (k + 1) g s).answer.work ≡ Done
+        → (take_from i (k + 1) g s).answer.work ≡ complete
         → Listed (k + 1) (take_from i (k + 1) g s).answer.addresses pointer
         → Between (k + 1) p pointer g
         → Bare (k + 1 + i) p pointer (take_from i (k + 1) g s).after
-        → (take_from m (k + 1) g s).answer.work ≡ Stopped (NoSpare (k + 1 + i))
+        → (take_from m (k + 1) g s).answer.work ≡ Err (NoSpare (k + 1 + i))
 
-    go : Later → Trying k g (code_of 0) s → (take_from (suc m) k g s).answer.work ≡ Stopped (NoSpare (k + suc i))
+    go : Later → Trying k g (code_of 0) s → (take_from (suc m) k g s).answer.work ≡ Err (NoSpare (k + suc i))
     go later (missing t) = not_done (sym (ap (λ (r : Run Taken). r.answer.work) (take_missing i k g s t.nowhere)) ∙ e)
     go later (landing t) =
         let early = take_landing i k g s t.place t.here in
@@ -126,12 +125,12 @@ take_always (suc i) (suc m) k g s p pointer l paired e at between bare = go (tak
         (λ j l. let q : k + 1 + j ≡ k + suc j = omega arith in rw q (held (suc j) (omega arith)))
         (rw add-one (between_more between t.place (rw add-zero at (held 0 (omega arith)))))
         here
-        ∙ ap (λ (j : ℕ). Stopped (NoSpare j)) moved
+        ∙ ap (λ (j : ℕ). Err (NoSpare j)) moved
 
 -- spares that are tried and found to miss were asked, and that is the end
 spares_missed :
     {p : Places} {k : ℕ} {pointer : ℕ → ℕ} {g : Gap} {s : Chip} → Between k p pointer g → Missing k g (code_of 0) s
-    → SparesAsked p k pointer (try_spares k g (code_of 0) s then still (taken (Stopped (NoSpare k)) []) (try_spares k g (code_of 0) s).after)
+    → SparesAsked p k pointer (try_spares k g (code_of 0) s then still (taken (Err (NoSpare k)) []) (try_spares k g (code_of 0) s).after)
 spares_missed {p} {k} {pointer} {g} {s} between m =
     let same = between_unique between (between_gap k p pointer) in
     let left : g ≡ gap_to k p pointer = ap₂ gap same.0 same.1 in
@@ -146,16 +145,16 @@ record TakeStop (n k j : ℕ) (g : Gap) (s : Chip) : Type 0 where
   many : ℕ
   slot : j ≡ k + many
   inside : many < n
-  before : (take_from many k g s).answer.work ≡ Done
+  before : (take_from many k g s).answer.work ≡ complete
   after : (take_from n k g s).after ≡ (take_from many k g s).after
   asked : (p : Places) (pointer : ℕ → ℕ) → Listed k (take_from many k g s).answer.addresses pointer → Between k p pointer g → SparesAsked p j pointer (take_from n k g s)
 
-take_only : (n k : ℕ) (g : Gap) (s : Chip) (j : ℕ) → Paired s → (take_from n k g s).answer.work ≡ Stopped (NoSpare j) → TakeStop n k j g s
+take_only : (n k : ℕ) (g : Gap) (s : Chip) (j : ℕ) → Paired s → (take_from n k g s).answer.work ≡ Err (NoSpare j) → TakeStop n k j g s
 take_only zero k g s j paired e = not_done (sym e ∙ ap (λ (r : Run Taken). r.answer.work) (take_none k g s))
 take_only (suc n) k g s j paired e = go (take_only n (k + 1)) (try_laws k g (code_of 0) s paired).trying
   where
     Later : Type 0
-    Later = (g : Gap) (s : Chip) (j : ℕ) → Paired s → (take_from n (k + 1) g s).answer.work ≡ Stopped (NoSpare j) → TakeStop n (k + 1) j g s
+    Later = (g : Gap) (s : Chip) (j : ℕ) → Paired s → (take_from n (k + 1) g s).answer.work ≡ Err (NoSpare j) → TakeStop n (k + 1) j g s
 
     -- it ended at a later slot
     there :
@@ -205,14 +204,14 @@ module _ {layout : Layout} {p : Places} {s : Chip} (ready : Ready layout p s) wh
   takes = take_laws (slots layout) 0 (whole_area p) s ready.paired
 
   -- an opening that found no spare ended its taking so
-  opening_taking : (j : ℕ) → (first_opening layout p s).answer ≡ Stopped (NoSpare j) → taking.answer.work ≡ Stopped (NoSpare j)
+  opening_taking : (j : ℕ) → (first_opening layout p s).answer ≡ Err (NoSpare j) → taking.answer.work ≡ Err (NoSpare j)
   opening_taking j e = go takes.either
     where
-      mapped_out : MapEnded (mapping taking.after).answer → (mapping taking.after).answer ≡ Stopped (NoSpare j) → ⊥
+      mapped_out : MapEnded (mapping taking.after).answer → (mapping taking.after).answer ≡ Err (NoSpare j) → ⊥
       mapped_out (put d) q = true≢false cc
       mapped_out (failed a d) q = true≢false cc
 
-      go : (taking.answer.work ≡ Done) ⊎ ((i : ℕ) × (taking.answer.work ≡ Stopped (NoSpare i))) → taking.answer.work ≡ Stopped (NoSpare j)
+      go : (taking.answer.work ≡ complete) ⊎ ((i : ℕ) × (taking.answer.work ≡ Err (NoSpare i))) → taking.answer.work ≡ Err (NoSpare j)
       go (inl d) =
           let maps = map_laws (ready_kept ready (within_kept takes.within)) taking.answer.addresses (takes.all d).many in
           absurd (mapped_out maps.ended (sym (ap (λ (w : Run Work). w.answer) (opening_on layout p s d)) ∙ e))
@@ -220,17 +219,17 @@ module _ {layout : Layout} {p : Places} {s : Chip} (ready : Ready layout p s) wh
 
   module _ (k : ℕ) where
     -- where the taking ended
-    opening_stop : (first_opening layout p s).answer ≡ Stopped (NoSpare k) → TakeStop (slots layout) 0 k (whole_area p) s
+    opening_stop : (first_opening layout p s).answer ≡ Err (NoSpare k) → TakeStop (slots layout) 0 k (whole_area p) s
     opening_stop e = take_only (slots layout) 0 (whole_area p) s k ready.paired (opening_taking k e)
 
     -- and what it asked there
     stop_asked : (x : TakeStop (slots layout) 0 k (whole_area p) s) → SparesAsked p k (taken_to p s x.many) taking
     stop_asked x = x.asked p (taken_to p s x.many) (λ i l. ap (taken_to p s x.many) (zero-add i)) (between_none p (taken_to p s x.many))
 
-    pub opening_roomless : ((first_opening layout p s).answer ≡ Stopped (NoSpare k)) ↔ OpeningFull layout p k s
+    pub opening_roomless : ((first_opening layout p s).answer ≡ Err (NoSpare k)) ↔ OpeningFull layout p k s
     opening_roomless = (only, always)
       where
-        only : (first_opening layout p s).answer ≡ Stopped (NoSpare k) → OpeningFull layout p k s
+        only : (first_opening layout p s).answer ≡ Err (NoSpare k) → OpeningFull layout p k s
         only e =
             let x = opening_stop e in
             let same : x.many ≡ k = sym (x.slot ∙ zero-add x.many) in
@@ -240,16 +239,16 @@ module _ {layout : Layout} {p : Places} {s : Chip} (ready : Ready layout p s) wh
               full = rw same at (rw x.after at (stop_asked x).bare);
             }
 
-        always : OpeningFull layout p k s → (first_opening layout p s).answer ≡ Stopped (NoSpare k)
+        always : OpeningFull layout p k s → (first_opening layout p s).answer ≡ Err (NoSpare k)
         always f =
             let same = zero-add k in
             let stops =
             take_always k (slots layout) 0 (whole_area p) s p (taken_to p s k) f.inside ready.paired f.before (λ j l. ap (taken_to p s k) (zero-add j)) (between_none p (taken_to p s k)) (rw same f.full)
-            ∙ ap (λ (j : ℕ). Stopped (NoSpare j)) same in
+            ∙ ap (λ (j : ℕ). Err (NoSpare j)) same in
             ap (λ (r : Run Work). r.answer) (opening_ends layout p s stops) ∙ stops
 
     -- a first opening that is stopped so ends in asking every spare that the addresses taken so far leave
-    pub opening_tried : (first_opening layout p s).answer ≡ Stopped (NoSpare k) → SparesAsked p k (taken_to p s k) (first_opening layout p s)
+    pub opening_tried : (first_opening layout p s).answer ≡ Err (NoSpare k) → SparesAsked p k (taken_to p s k) (first_opening layout p s)
     opening_tried e =
         let x = opening_stop e in
         let same : x.many ≡ k = sym (x.slot ∙ zero-add x.many) in

@@ -1,6 +1,8 @@
 -- The data writes of steps up to and including the first refused one, whatever the lives are.
 --   Bounded, steps_bound      they are no more than one a copy and step, and the room
 --   run_bound                 behind an opening that answered: no more than the bound of condition 3
+use Rattle.counter.specs.Verdict.{Verdict, read_as}
+use Rattle.std.proofs.Common.{Ok, Err}
 use Prim.Native.Nat.{ℕ, zero, suc, ◌+◌, ◌*◌, ◌^◌, ◌≤◌, ◌<◌}
 use mathlib.Core.Path.{◌≡◌, refl, sym, ap, ◌∙◌}
 use native.Mathlib.Nat.{mul-suc}
@@ -12,8 +14,6 @@ use Rattle.cells.specs.Chip.{Chip}
 use Rattle.cells.specs.Run.{Run}
 use Rattle.cells.proofs.Logs.{asked_none, asked_append}
 use Rattle.counter.specs.declared.places.Places.{Places}
-use Rattle.counter.specs.declared.verdict.Verdict.{Verdict}
-use Rattle.counter.specs.declared.verdict.Verdict.TheVariants.{Good, Refused}
 use Rattle.counter.specs.declared.layout.Layout.{Layout}
 use Rattle.counter.specs.Doors.{last_count, open_run, step_run}
 use Rattle.promises.specs.Runs.{steps_up_to, steps_after, data_writes, data_bound}
@@ -56,8 +56,8 @@ module _ {layout : Layout} {p : Places} (one : 1 ≤ layout.copies) where
       go :
           (v : Verdict) → (step_run layout p s).answer ≡ v → ((d : ℕ) → d < 2 ^ 32 → Exact layout p d next → Bounded n layout p next)
           → Bounded (suc n) layout p s
-      go (Refused why) e rest = let h = (step_any small exact).bounded in rw (steps_next n layout p s e) (omega (arith, mul-suc layout.copies 0))
-      go (Good d lag) e rest =
+      go (Err why) e rest = let h = (step_any small exact).bounded in rw (steps_next n layout p s e) (omega (arith, mul-suc layout.copies 0))
+      go (Ok (d, lag)) e rest =
           let good = step_good layout p s e in
           let below = good.below in
           let h = (step_any small exact).paid d lag e in
@@ -65,7 +65,7 @@ module _ {layout : Layout} {p : Places} (one : 1 ≤ layout.copies) where
           rw (steps_next n layout p s e, asked_append) (omega (arith, mul-suc layout.copies (length (steps_up_to n layout p next).answer)))
 
 pub run_bound :
-    (n : ℕ) (layout : Layout) (p : Places) (s : Chip) {c : ℕ} {lag : ℤ} → 1 ≤ layout.copies → (open_run layout p s).answer ≡ Good c lag
+    (n : ℕ) (layout : Layout) (p : Places) (s : Chip) {c : ℕ} {lag : ℤ} → 1 ≤ layout.copies → (open_run layout p s).answer ≡ read_as c lag
     → data_writes p (steps_after n layout p s).log ≤ data_bound layout (length (steps_after n layout p s).answer) p
 unfolding data_bound
 run_bound n layout p s one e =

@@ -2,6 +2,8 @@
 --   steps_next                the first step, and the others if it was good
 --   Made, steps_made          their answers and chips are those of `step_of`, one after another, up to the first refused one
 --   steps_within              they write cells of map and area alone, and change nothing else
+use Rattle.counter.specs.Verdict.{Verdict}
+use Rattle.std.proofs.Common.{Ok, Err}
 use Prim.Native.Nat.{ℕ, zero, suc, ◌≤◌}
 use mathlib.Core.Path.{◌≡◌, refl, ap}
 use mathlib.Core.List.{List, [], ◌∷◌}
@@ -11,8 +13,6 @@ use Rattle.cells.specs.Log.{Within}
 use Rattle.cells.proofs.Logs.{within_still, within_giving, within_then}
 use Rattle.counter.specs.declared.places.Places.{Places}
 use Rattle.counter.specs.declared.verdict.Answer.{Answer}
-use Rattle.counter.specs.declared.verdict.Verdict.{Verdict}
-use Rattle.counter.specs.declared.verdict.Verdict.TheVariants.{Good, Refused}
 use Rattle.counter.specs.declared.layout.Layout.{Layout}
 use Rattle.counter.specs.Doors.{step_run, step_of}
 use Rattle.promises.specs.Runs.{onward, steps_up_to}
@@ -48,15 +48,15 @@ steps_made (suc n) layout p s = go r.answer refl (steps_made n layout p r.after)
     rest = steps_up_to n layout p r.after
 
     go : (v : Verdict) → r.answer ≡ v → Made layout p n r.after rest.answer rest.after → Made layout p (suc n) s (onward v r rest).answer (onward v r rest).after
-    go (Good c lag) e made = good (ap (λ (a : Answer). a.code) (good_says r e)) made
-    go (Refused why) e made = refused (refused_code r e)
+    go (Ok (c, lag)) e made = good (ap (λ (a : Answer). a.code) (good_says r e)) made
+    go (Err why) e made = refused (refused_code r e)
 
 -- a step and the others, or that step alone
 onward_within :
     {Place : ℕ → Type 0} {s : Chip} (v : Verdict) {r : Run Verdict} {rest : Run (List Answer)}
     → Within Place s r → Within Place r.after rest → Within Place s (onward v r rest)
-onward_within (Good c lag) w w' = within_giving _ (within_then w w')
-onward_within (Refused why) w w' = within_giving _ w
+onward_within (Ok (c, lag)) w w' = within_giving _ (within_then w w')
+onward_within (Err why) w w' = within_giving _ w
 
 pub steps_within : (n : ℕ) (layout : Layout) (p : Places) (s : Chip) → Within (Own layout p) s (steps_up_to n layout p s)
 unfolding steps_up_to

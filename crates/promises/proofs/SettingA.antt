@@ -1,5 +1,7 @@
 -- The theorems are not about nothing: a blank image of setting A (document 01, "Measured on the bench") is ready to be
 -- opened, is opened, and holds count 0 exactly then; a step on it is clean, and a byte torn there may read in each of the four ways.
+use Rattle.counter.specs.Verdict.{complete}
+use Rattle.std.proofs.Common.{Ok}
 use Prim.Native.Nat.{ℕ, zero, suc, ◌≤◌, ◌<◌}
 use mathlib.Core.Path.{◌≡◌, refl}
 use native.Mathlib.Omega.{arith}
@@ -12,7 +14,6 @@ use Rattle.code.specs.Nibbles.{nibble_of}
 use Rattle.cells.specs.Chip.{Chip, chip, life_at, write_at}
 use Rattle.cells.specs.Put.{put_at}
 use Rattle.cells.specs.Row.{next, try_at, walk, put_row}
-use Rattle.counter.specs.declared.verdict.Work.TheVariants.{Done}
 use Rattle.counter.specs.Layout.{two}
 use Rattle.counter.specs.Slots.{kind_of}
 use Rattle.counter.specs.Places.{setting_a, length_good, places_good}
@@ -33,7 +34,7 @@ pub blank_ready : Ready two setting_a blank
 unfolding blank length_good places_good
 blank_ready = record { paired = refl; long = refl; good = refl }
 
-pub blank_opens : (first_opening two setting_a blank).answer ≡ Done
+pub blank_opens : (first_opening two setting_a blank).answer ≡ complete
 unfolding blank codes code_of write_at put_at next try_at walk put_row kind_of offset_in offset_of pointer_bytes whole_area narrow way_of next_of spares_of mapped put_pointer try_spares take_from put_pointers put_mark first_opening
 blank_opens = refl
 

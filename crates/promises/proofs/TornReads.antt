@@ -6,6 +6,7 @@
 --   SecondTorn, second_torn   and where the second one was
 --   Survives, cut_survives    in either: the count before the step, or the one after it, or refusal 6; and what open makes of it
 --   first_reads, second_reads, torn_survives  the same, of any chip that is left so
+use Rattle.std.proofs.Common.{Ok, Err}
 use Prim.Native.Nat.{ℕ, zero, suc, ◌+◌, ◌-◌, ◌*◌, ◌%◌, ◌^◌, ◌<◌}
 use mathlib.Core.Path.{◌≡◌, refl, sym, ap, ◌∙◌}
 use mathlib.Core.Bool.{Bool, true, false, true≢false}
@@ -25,12 +26,10 @@ use Rattle.code.proofs.ReadingLaws.{read_small, nibble_round, nibble_kept}
 use Rattle.cells.specs.Chip.{Chip}
 use Rattle.counter.specs.declared.places.Places.{Places}
 use Rattle.counter.specs.declared.verdict.Answer.{Answer}
-use Rattle.counter.specs.declared.verdict.Verdict.{Verdict}
-use Rattle.counter.specs.declared.verdict.Verdict.TheVariants.{Good, Refused}
 use Rattle.counter.specs.declared.verdict.Refusal.TheVariants.{Apart}
 use Rattle.counter.specs.Layout.{two}
 use Rattle.counter.specs.Reading.{nibble_in, count_in, decide, weigh, verdict_of}
-use Rattle.counter.specs.Verdict.{answer}
+use Rattle.counter.specs.Verdict.{answer, Verdict, read_as}
 use Rattle.counter.specs.Store.{slot_code}
 use Rattle.counter.specs.Doors.{read_of}
 use Rattle.counter.specs.Trials.{trial_step_of}
@@ -166,7 +165,7 @@ record ApartBy (v : Verdict) : Type 0 where
   lag : ℤ
   level : lag ≡ pos 0 → ⊥
   ahead : lag ≡ pos 1 → ⊥
-  is : v ≡ Refused (Apart lag)
+  is : v ≡ Err (Apart lag)
 
 apart_by : (x y : ℕ) → (x ≡ y → ⊥) → (x ≡ y + 1 → ⊥) → ApartBy (decide x y)
 apart_by x y level ahead = record { lag = pos x -ℤ pos y; level = λ e. level (lag_level x y e); ahead = λ e. ahead (lag_ahead x y e); is = decide_other x y level ahead }
@@ -204,16 +203,16 @@ module _ {p : Places} {c : ℕ} {s : Chip} (clean : Clean two p c s) where
           weighed torn ∙ decided first_amid
           ∙ ap (decide (count 0)) (count_other first_amid)
 
-      first_same : nibble_in two (λ k. reading_of (data_of two p t k)) 0 (changed_nibble c) ≡ old_nibble c → verdict ≡ Good c (pos 0)
+      first_same : nibble_in two (λ k. reading_of (data_of two p t k)) 0 (changed_nibble c) ≡ old_nibble c → verdict ≡ read_as c (pos 0)
       first_same e = first_decided ∙ ap (λ (x : ℕ). decide x c) (count_own first_amid small_before (λ m d. refl) e) ∙ decide_same c
 
-      first_lost : ReadsLost b → verdict ≡ Good c (pos 0)
+      first_lost : ReadsLost b → verdict ≡ read_as c (pos 0)
       first_lost gone = first_same (nibble_lost first_amid gone)
 
-      first_old : ReadsAs (old_nibble c) b → verdict ≡ Good c (pos 0)
+      first_old : ReadsAs (old_nibble c) b → verdict ≡ read_as c (pos 0)
       first_old (has, e) = first_same (nibble_had first_amid has ∙ e)
 
-      first_new : ReadsAs (new_nibble c) b → verdict ≡ Good (c + 1) (pos 1)
+      first_new : ReadsAs (new_nibble c) b → verdict ≡ read_as (c + 1) (pos 1)
       first_new (has, e) =
           let had = nibble_had first_amid has ∙ e in
           first_decided ∙ ap (λ (x : ℕ). decide x c) (count_own first_amid small (λ m d. sym (stays m d)) had) ∙ decide_next c
@@ -238,16 +237,16 @@ module _ {p : Places} {c : ℕ} {s : Chip} (clean : Clean two p c s) where
           weighed torn ∙ decided second_amid
           ∙ ap (λ (x : ℕ). decide x (count 1)) (count_other second_amid)
 
-      second_same : nibble_in two (λ k. reading_of (data_of two p t k)) 1 (changed_nibble c) ≡ new_nibble c → verdict ≡ Good (c + 1) (pos 0)
+      second_same : nibble_in two (λ k. reading_of (data_of two p t k)) 1 (changed_nibble c) ≡ new_nibble c → verdict ≡ read_as (c + 1) (pos 0)
       second_same e = second_decided ∙ ap (decide (c + 1)) (count_own second_amid small (λ m d. refl) e) ∙ decide_same (c + 1)
 
-      second_lost : ReadsLost b → verdict ≡ Good (c + 1) (pos 0)
+      second_lost : ReadsLost b → verdict ≡ read_as (c + 1) (pos 0)
       second_lost gone = second_same (nibble_lost second_amid gone)
 
-      second_new : ReadsAs (new_nibble c) b → verdict ≡ Good (c + 1) (pos 0)
+      second_new : ReadsAs (new_nibble c) b → verdict ≡ read_as (c + 1) (pos 0)
       second_new (has, e) = second_same (nibble_had second_amid has ∙ e)
 
-      second_old : ReadsAs (old_nibble c) b → verdict ≡ Good (c + 1) (pos 1)
+      second_old : ReadsAs (old_nibble c) b → verdict ≡ read_as (c + 1) (pos 1)
       second_old (has, e) =
           let had = nibble_had second_amid has ∙ e in
           second_decided ∙ ap (decide (c + 1)) (count_own second_amid small_before stays had) ∙ decide_next c
@@ -261,7 +260,7 @@ module _ {p : Places} {c : ℕ} {s : Chip} (clean : Clean two p c s) where
 
     -- ## The same, of the answers
 
-    reads_good : {d : ℕ} {lag : ℤ} → verdict ≡ Good d lag → read_of two p t.cells ≡ answer 0 d lag 0 0 0
+    reads_good : {d : ℕ} {lag : ℤ} → verdict ≡ read_as d lag → read_of two p t.cells ≡ answer 0 d lag 0 0 0
     reads_good e = read_good two p t.cells e
 
     reads_apart : ApartBy verdict → ReadsApart (read_of two p t.cells)
@@ -289,7 +288,7 @@ module _ {p : Places} {c : ℕ} {s : Chip} (clean : Clean two p c s) where
 
     -- what the two tables have in common
     data Told : Type 0 where
-      counted : (d : ℕ) (lag : ℤ) → (d ≡ c) ⊎ (d ≡ c + 1) → (ReadsOther c b → ⊥) → verdict ≡ Good d lag → Told
+      counted : (d : ℕ) (lag : ℤ) → (d ≡ c) ⊎ (d ≡ c + 1) → (ReadsOther c b → ⊥) → verdict ≡ read_as d lag → Told
       apart : ReadsOther c b → ApartBy verdict → Told
 
     -- a lost byte does not read as another nibble

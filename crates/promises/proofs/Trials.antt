@@ -3,6 +3,7 @@
 --   trial_open_cut, trial_step_cut  with less it is the plain call's first writes and then a torn one
 --   step_first, step_second   a step has stored the count that was read before it asks for anything of the next
 --   open_lit, step_lit        11 is met at the trial doors alone (read: `read_lit`, counter/proofs/DoorAnswers.antt)
+use Rattle.std.proofs.Common.{Ok}
 use Prim.Native.Nat.{ℕ, ◌+◌, ◌-◌, ◌≤◌}
 use mathlib.Core.Path.{◌≡◌, sym, ap, ◌∙◌}
 use mathlib.Core.List.{List, ◌∷◌, ◌++◌}
@@ -17,12 +18,8 @@ use Rattle.cells.proofs.Cuts.{cut_first, cut_then}
 use Rattle.cells.proofs.CutLogs.{cut_at}
 use Rattle.counter.specs.declared.places.Places.{Places}
 use Rattle.counter.specs.declared.verdict.Answer.{Answer}
-use Rattle.counter.specs.declared.verdict.Verdict.{Verdict}
-use Rattle.counter.specs.declared.verdict.Verdict.TheVariants.{Good}
-use Rattle.counter.specs.declared.verdict.Work.{Work}
-use Rattle.counter.specs.declared.verdict.Work.TheVariants.{Done}
 use Rattle.counter.specs.declared.layout.Layout.{Layout}
-use Rattle.counter.specs.Verdict.{outcome, outcome_of, answer, ◌ending_in◌}
+use Rattle.counter.specs.Verdict.{outcome, outcome_of, answer, ◌ending_in◌, Verdict, Work, read_as, complete}
 use Rattle.counter.specs.Store.{store}
 use Rattle.counter.specs.Doors.{last_count, chip_verdict, open_run, step_run, open_of, step_of}
 use Rattle.counter.specs.Trials.{cut_outcome, trial_open_of, trial_step_of}
@@ -50,7 +47,7 @@ module _ (layout : Layout) (p : Places) (power torn : ℕ) (s : Chip) where
       → trial_step_of layout p (length first) torn s ≡ outcome (answer 11 0 (pos 0) w.at 0 0) (write_at w.at torn (write_all first s))
   trial_step_cut first w rest e = trial_step_is layout p s (length first) torn ∙ ap cut_outcome (cut_at torn (step_run layout p s) s first w rest e)
 
-  module _ (c : ℕ) (lag : ℤ) (reads : chip_verdict layout p s ≡ Good c lag) (below : c ≡ last_count → ⊥) where
+  module _ (c : ℕ) (lag : ℤ) (reads : chip_verdict layout p s ≡ read_as c lag) (below : c ≡ last_count → ⊥) where
     abbrev settling : Run Work
     settling = store layout p c s
 
@@ -59,15 +56,15 @@ module _ (layout : Layout) (p : Places) (power torn : ℕ) (s : Chip) where
     step_first e = cut_first power torn settling (step_run layout p s) s (rw (step_on layout p s c lag reads below) (starts_and settling (store layout p (c + 1)))) e
 
     -- one that was not cut there has the count in every slot, and what may be cut is the storing of the next
-    pub step_second : settling.answer ≡ Done → length settling.log ≤ power
+    pub step_second : settling.answer ≡ complete → length settling.log ≤ power
         → Exact layout p c settling.after
-        × (cut power torn (step_run layout p s) s ≡ later (length settling.log) settling.tried (cut (power - length settling.log) torn (store layout p (c + 1) settling.after ending_in Good (c + 1) lag) settling.after))
+        × (cut power torn (step_run layout p s) s ≡ later (length settling.log) settling.tried (cut (power - length settling.log) torn (store layout p (c + 1) settling.after ending_in read_as (c + 1) lag) settling.after))
     step_second done few =
         let good = (verdict_good layout p s reads).1 in
         let laws = store_laws layout p c s good.ready good.sound in (
           exact_stored good.ready c good.marks good.sound done,
           rw (step_on layout p s c lag reads below, done_then settling (store layout p (c + 1)) done)
-              (cut_then power torn settling s (store layout p (c + 1) settling.after ending_in Good (c + 1) lag) few laws.within.logged),
+              (cut_then power torn settling s (store layout p (c + 1) settling.after ending_in read_as (c + 1) lag) few laws.within.logged),
         )
 
 -- ## 11 is met at the trial doors alone

@@ -7,6 +7,7 @@
 --   StepGood, step_good       what a good step read, answered and left
 --   open_reads, step_reads    what is read then
 --   step_counts               the count of a good step, and its lag, from the read before it
+use Rattle.std.proofs.Common.{Ok, Err}
 use Prim.Native.Nat.{ℕ, ◌+◌, ◌^◌, ◌≤◌, ◌<◌}
 use mathlib.Core.Path.{◌≡◌, refl, sym, ap, ◌∙◌}
 use native.Mathlib.Decide.{ℕ_discrete}
@@ -18,30 +19,26 @@ use Rattle.cells.specs.Run.{Run}
 use Rattle.code.specs.Mended.{no_bits}
 use Rattle.counter.specs.declared.doors.ReadAnswer.{ReadAnswer}
 use Rattle.counter.specs.declared.places.Places.{Places}
-use Rattle.counter.specs.declared.verdict.Verdict.{Verdict}
-use Rattle.counter.specs.declared.verdict.Verdict.TheVariants.{Good, Refused}
-use Rattle.counter.specs.declared.verdict.Work.{Work}
-use Rattle.counter.specs.declared.verdict.Work.TheVariants.{Done, Stopped}
 use Rattle.counter.specs.declared.layout.Layout.{Layout}
-use Rattle.counter.specs.Verdict.{answer, outcome_of, ending, ◌and_then◌}
+use Rattle.counter.specs.Verdict.{answer, outcome_of, ending, ◌and_then◌, Verdict, Work, read_as}
 use Rattle.counter.specs.Reading.{verdict_of}
 use Rattle.counter.specs.Store.{store}
 use Rattle.counter.specs.Doors.{last_count, chip_verdict, open_run, step_run, open_of, step_of, read_of, read_answer_of}
 use Rattle.counter.proofs.DoorAnswers.{code_good, good_says, open_is, step_is, read_good}
 use Rattle.counter.proofs.Exact.{Exact, exact_reads}
 use Rattle.counter.proofs.MendedBits.{bits_exact}
-use Rattle.counter.proofs.GoodVerdicts.{not_good, VerdictGood, verdict_good}
+use Rattle.counter.proofs.GoodVerdicts.{same_count, not_good, VerdictGood, verdict_good}
 use Rattle.counter.proofs.DoorViews.{step_refused, step_last, step_on}
 use Rattle.promises.proofs.DoorRuns.{Comes, Comes.untouched, Comes.spareless, Comes.mapless, Comes.good, open_laws, step_laws}
 
 -- a good call leaves its count exactly
 pub run_exact :
     {layout : Layout} {p : Places} {s : Chip} {c : ℕ} {lag : ℤ} (r : Run Verdict) → Comes layout p s r
-    → r.answer ≡ Good c lag → (c < 2 ^ 32) × Exact layout p c r.after
+    → r.answer ≡ read_as c lag → (c < 2 ^ 32) × Exact layout p c r.after
 run_exact r (untouched why reads e) g = not_good (sym (ap (λ (q : Run Verdict). q.answer) e) ∙ g)
 run_exact r (spareless k e) g = not_good (sym e ∙ g)
 run_exact r (mapless a e) g = not_good (sym e ∙ g)
-run_exact {layout} {p} {s} {c} r (good d lag e small exact) g = let q : d ≡ c = cc in (rw q at small, rw q at exact)
+run_exact {layout} {p} {s} {c} r (good d lag e small exact) g = let q = same_count (sym e ∙ g) in (rw q at small, rw q at exact)
 
 -- what a read answers where nothing was amiss: the count, and no more
 abbrev pub reads_clean : ℕ → ReadAnswer
@@ -89,28 +86,28 @@ pub record StepGood (layout : Layout) (p : Places) (s : Chip) : Type 0 where
   pub count : ℕ
   pub lag : ℤ
   pub below : count < last_count
-  pub reads : verdict_of layout p s.cells ≡ Good count lag
-  pub answers : (step_run layout p s).answer ≡ Good (count + 1) lag
+  pub reads : verdict_of layout p s.cells ≡ read_as count lag
+  pub answers : (step_run layout p s).answer ≡ read_as (count + 1) lag
   pub exact : Exact layout p (count + 1) (step_run layout p s).after
 
 -- a call that ends well ends in what it was to end in
-ending_good : {c : ℕ} {lag : ℤ} (v : Verdict) (w : Work) → ending v w ≡ Good c lag → ending v w ≡ v
-ending_good v Done e = refl
-ending_good v (Stopped why) e = not_good e
+ending_good : {c : ℕ} {lag : ℤ} (v : Verdict) (w : Work) → ending v w ≡ read_as c lag → ending v w ≡ v
+ending_good v (Ok tt) e = refl
+ending_good v (Err why) e = not_good e
 
-module _ (layout : Layout) (p : Places) (s : Chip) {d : ℕ} {other : ℤ} (g : (step_run layout p s).answer ≡ Good d other) where
+module _ (layout : Layout) (p : Places) (s : Chip) {d : ℕ} {other : ℤ} (g : (step_run layout p s).answer ≡ read_as d other) where
   good_from : (v : Verdict) → chip_verdict layout p s ≡ v → StepGood layout p s
-  good_from (Refused why) e = not_good (sym (ap (λ (q : Run Verdict). q.answer) (step_refused layout p s why e)) ∙ g)
-  good_from (Good c lag) e = counted (ℕ_discrete c last_count)
+  good_from (Err why) e = not_good (sym (ap (λ (q : Run Verdict). q.answer) (step_refused layout p s why e)) ∙ g)
+  good_from (Ok (c, lag)) e = counted (ℕ_discrete c last_count)
     where
-      read : (verdict_of layout p s.cells ≡ Good c lag) × VerdictGood layout p c s
+      read : (verdict_of layout p s.cells ≡ read_as c lag) × VerdictGood layout p c s
       read = verdict_good layout p s e
 
       counted : Dec (c ≡ last_count) → StepGood layout p s
       counted (yes l) = not_good (sym (ap (λ (q : Run Verdict). q.answer) (step_last layout p s c lag e l)) ∙ g)
       counted (no n) =
           let on = ap (λ (q : Run Verdict). q.answer) (step_on layout p s c lag e n) in
-          let well = on ∙ ending_good (Good (c + 1) lag) (store layout p c s and_then store layout p (c + 1)).answer (sym on ∙ g) in
+          let well = on ∙ ending_good (read_as (c + 1) lag) (store layout p c s and_then store layout p (c + 1)).answer (sym on ∙ g) in
           let small = read.1.small in
           record {
             count = c;

@@ -6,9 +6,8 @@ use Rattle.cells.specs.Chip.{Chip}
 use Rattle.cells.specs.Run.{Run}
 use Rattle.counter.specs.declared.places.Places.{Places}
 use Rattle.counter.specs.declared.verdict.Answer.{Answer}
-use Rattle.counter.specs.declared.verdict.Verdict.{Verdict}
 use Rattle.counter.specs.declared.layout.Layout.{Layout}
-use Rattle.counter.specs.Verdict.{outcome_of}
+use Rattle.counter.specs.Verdict.{outcome_of, Verdict}
 use Rattle.counter.specs.Doors.{open_run, step_run, open_of, step_of}
 use Rattle.counter.proofs.DoorAnswers.{good_says, spareless_code, mapless_code, open_is, step_is}
 use Rattle.promises.proofs.DoorRuns.{Comes, Comes.untouched, Comes.spareless, Comes.mapless, Comes.good, open_laws, step_laws}

@@ -2,6 +2,8 @@
 --   slot_written              storing the slot is that write
 --   written_map, written_ready, written_sound  the map stays, and the chip stays fit
 --   written_data, written_life  so do the other slots' bytes and lives
+use Rattle.counter.specs.Verdict.{complete}
+use Rattle.std.proofs.Common.{Ok}
 use Prim.Native.Nat.{ℕ, ◌≤◌, ◌<◌}
 use mathlib.Core.Path.{◌≡◌, ap, ◌∙◌}
 use mathlib.Core.Bool.{Bool}
@@ -11,7 +13,6 @@ use Rattle.cells.specs.Run.{Run, write, run, ◌giving◌}
 use Rattle.cells.proofs.Writes.{kept_wider, write_laws}
 use Rattle.cells.proofs.Puts.{put_laws}
 use Rattle.counter.specs.declared.places.Places.{Places}
-use Rattle.counter.specs.declared.verdict.Work.TheVariants.{Done}
 use Rattle.counter.specs.declared.layout.Layout.{Layout}
 use Rattle.counter.specs.Layout.{slots}
 use Rattle.counter.specs.Map.{map_in}
@@ -26,10 +27,10 @@ module _ {layout : Layout} {p : Places} {s : Chip} (ready : Ready layout p s) (s
 
   pub slot_written :
       (data_of layout p s k ≡ b → ⊥) → 1 ≤ life_at s (pointers layout p s k)
-      → store_slot layout p k b s ≡ run Done (write (pointers layout p s k) b ∷ []) 0 written
+      → store_slot layout p k b s ≡ run complete (write (pointers layout p s k) b ∷ []) 0 written
   slot_written other alive =
       slot_alive layout p k b s ready.paired alive
-      ∙ ap (λ (r : Run Bool). r giving Done) ((put_laws (pointers layout p s k) b s ready.paired).taken other alive)
+      ∙ ap (λ (r : Run Bool). r giving complete) ((put_laws (pointers layout p s k) b s ready.paired).taken other alive)
 
   kept : Kept (λ a. a ≡ pointers layout p s k) s written
   kept = (write_laws (pointers layout p s k) b s).kept

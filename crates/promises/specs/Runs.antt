@@ -1,26 +1,24 @@
 -- Runs: an opening, and steps after it on the same settings, nothing else touching the cells (condition 3). They are made
 -- of the same work whose outcomes are `open_of` and `step_of`.
-use Rattle.std.specs.Prelude.{ℕ, zero, suc, ◌+◌, ◌-◌, ◌*◌, ◌/◌, ◌^◌, ◌≤◌, ◌<◌, ◌≡◌, true, List, [], ◌∷◌, pos, length}
+use Rattle.std.specs.Prelude.{ℕ, zero, suc, ◌+◌, ◌-◌, ◌*◌, ◌/◌, ◌^◌, ◌≤◌, ◌<◌, ◌≡◌, true, List, [], ◌∷◌, pos, length, Ok, Err}
 use Rattle.cells.specs.Chip.{Chip, cell_at, life_at}
 use Rattle.cells.specs.Run.{Run, Write, still, ◌then◌, ◌giving◌}
 use Rattle.cells.specs.Log.{asked_in, asked_of}
 use Rattle.counter.specs.declared.places.Places.{Places}
 use Rattle.counter.specs.declared.verdict.Answer.{Answer}
-use Rattle.counter.specs.declared.verdict.Verdict.{Verdict}
-use Rattle.counter.specs.declared.verdict.Verdict.TheVariants.{Good, Refused}
 use Rattle.counter.specs.declared.layout.Layout.{Layout}
 use Rattle.counter.specs.Layout.{slots}
 use Rattle.counter.specs.Places.{length_good, places_good, lives_good}
 use Rattle.counter.specs.Map.{map_in, pointer_of}
-use Rattle.counter.specs.Verdict.{answer, outcome_of}
+use Rattle.counter.specs.Verdict.{answer, outcome_of, Verdict}
 use Rattle.counter.specs.Doors.{open_run, step_run, open_of}
 
 -- ## Runs
 
 -- a step, and behind it the others if it was good; a refused step is the last
 abbrev pub onward : Verdict → Run Verdict → Run (List Answer) → Run (List Answer)
-onward (Good count lag) r rest = r then rest giving (outcome_of r).says ∷ rest.answer
-onward (Refused why) r rest = r giving (outcome_of r).says ∷ []
+onward (Ok (count, lag)) r rest = r then rest giving (outcome_of r).says ∷ rest.answer
+onward (Err why) r rest = r giving (outcome_of r).says ∷ []
 
 -- steps up to and including the first refused one, at most n: what each answered. As many were made as there are answers.
 unfoldable pub steps_up_to : ℕ → Layout → Places → Chip → Run (List Answer)

@@ -3,11 +3,12 @@
 ghost use Rattle.std.specs.Prelude.{◌≡◌};
 ghost use Rattle.cells.specs.Chip.{chip};
 ghost use Rattle.counter.specs.Layout.{two};
-ghost use Rattle.counter.specs.Places.{places};
 ghost use Rattle.counter.specs.Verdict.{outcome};
 ghost use Rattle.room.specs.Kept.{kept, may_have_moved, ends_after, kept_open_of, kept_step_of, kept_trial_open_of, kept_trial_step_of};
 
+use cells::mains::Mains;
 use counter::ends::{Ends, ends_of};
+use counter::places::Places;
 use counter::verdict::Answer;
 use counter::{doors, trials};
 
@@ -18,74 +19,61 @@ pub struct Kept {
     pub ends: Ends,
 }
 
-// Whether a step that answered so may have moved a pointer: a spare was tried, or it ended with 9 or 11.
+// The code of a call in which a map byte was not taken, and of one that lost its power. Numbers, since C gets an answer's code as one.
+const MAP_BYTE_FAILED: u32 = 9;
+
+const POWER_LOST: u32 = 11;
+
+// Whether a step that answered so may have moved a pointer: a spare was tried, a map byte was not taken, or the power was lost.
 fn may_have_moved(answer: Answer) -> bool
     ensures { result ≡ may_have_moved answer }
 {
-    if 0 < answer.tried {
-        return true;
-    }
-    if answer.code == 9 {
-        return true;
-    }
-    answer.code == 11
+    0 < answer.tried || answer.code == MAP_BYTE_FAILED || answer.code == POWER_LOST
 }
 
 // The ends behind a step that answered so: those before it, unless it may have moved a pointer.
-fn ends_behind(answer: Answer, before: Ends, image: &[u8], m: usize, s: usize, e: usize) -> Ends
-    ensures { result ≡ ends_after two (places m s e) before answer image.now }
+fn ends_behind(answer: Answer, before: Ends, image: &[u8], p: Places) -> Ends
+    ensures { result ≡ ends_after two p before answer image.now }
 {
     if may_have_moved(answer) {
-        return ends_of(image, m, s, e);
+        return ends_of(image, p);
     }
     before
 }
 
+// The doors are alike in pairs, but of two statements each, so that a function for what two share would be no plainer. An image and its
+// lives are two slices, as C lends them.
+
 // Opens a chip, and works out the ends of its map.
-pub fn kept_open(image: &mut [u8], lives: &mut [u32], m: usize, s: usize, e: usize) -> Kept
-    ensures { kept (outcome result.answer (chip image.new lives.new)) result.ends ≡ kept_open_of two (places m s e) (chip image.old lives.old) }
+pub fn kept_open(image: &mut [u8], lives: &mut [u32], p: Places) -> Kept
+    ensures { kept (outcome result.answer (chip image.new lives.new)) result.ends ≡ kept_open_of two p (chip image.old lives.old) }
 {
-    let answer = doors::open(image, lives, m, s, e);
+    let answer = doors::open(image, lives, p);
     Kept {
         answer,
-        ends: ends_of(image, m, s, e),
+        ends: ends_of(image, p),
     }
 }
 
 // Steps the count by one, and keeps the ends of the map.
-pub fn kept_step(
-    image: &mut [u8],
-    lives: &mut [u32],
-    m: usize,
-    s: usize,
-    e: usize,
-    before: Ends,
-) -> Kept
-    ensures { kept (outcome result.answer (chip image.new lives.new)) result.ends ≡ kept_step_of two (places m s e) before (chip image.old lives.old) }
+pub fn kept_step(image: &mut [u8], lives: &mut [u32], p: Places, before: Ends) -> Kept
+    ensures { kept (outcome result.answer (chip image.new lives.new)) result.ends ≡ kept_step_of two p before (chip image.old lives.old) }
 {
-    let answer = doors::step(image, lives, m, s, e);
+    let answer = doors::step(image, lives, p);
     Kept {
         answer,
-        ends: ends_behind(answer, before, image, m, s, e),
+        ends: ends_behind(answer, before, image, p),
     }
 }
 
 // Opens a chip, with power for so many writes, and works out the ends of its map.
-pub fn kept_trial_open(
-    image: &mut [u8],
-    lives: &mut [u32],
-    m: usize,
-    s: usize,
-    e: usize,
-    power: usize,
-    torn: u8,
-) -> Kept
-    ensures { kept (outcome result.answer (chip image.new lives.new)) result.ends ≡ kept_trial_open_of two (places m s e) power torn (chip image.old lives.old) }
+pub fn kept_trial_open(image: &mut [u8], lives: &mut [u32], p: Places, mains: Mains) -> Kept
+    ensures { kept (outcome result.answer (chip image.new lives.new)) result.ends ≡ kept_trial_open_of two p mains.power mains.torn (chip image.old lives.old) }
 {
-    let answer = trials::trial_open(image, lives, m, s, e, power, torn);
+    let answer = trials::trial_open(image, lives, p, mains);
     Kept {
         answer,
-        ends: ends_of(image, m, s, e),
+        ends: ends_of(image, p),
     }
 }
 
@@ -93,18 +81,15 @@ pub fn kept_trial_open(
 pub fn kept_trial_step(
     image: &mut [u8],
     lives: &mut [u32],
-    m: usize,
-    s: usize,
-    e: usize,
-    power: usize,
-    torn: u8,
+    p: Places,
+    mains: Mains,
     before: Ends,
 ) -> Kept
-    ensures { kept (outcome result.answer (chip image.new lives.new)) result.ends ≡ kept_trial_step_of two (places m s e) power torn before (chip image.old lives.old) }
+    ensures { kept (outcome result.answer (chip image.new lives.new)) result.ends ≡ kept_trial_step_of two p mains.power mains.torn before (chip image.old lives.old) }
 {
-    let answer = trials::trial_step(image, lives, m, s, e, power, torn);
+    let answer = trials::trial_step(image, lives, p, mains);
     Kept {
         answer,
-        ends: ends_behind(answer, before, image, m, s, e),
+        ends: ends_behind(answer, before, image, p),
     }
 }

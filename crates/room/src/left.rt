@@ -1,13 +1,13 @@
 // How many spare cells are left (document 02, P8), High ones and Low ones; a cell that either kind could use is counted for both.
 ghost use Rattle.std.specs.Prelude.{◌≡◌};
 ghost use Rattle.counter.specs.Layout.{two};
-ghost use Rattle.counter.specs.Places.{places};
 ghost use Rattle.room.specs.Room.{between, left_of, room_of};
 
 use counter::ends::{Ends, ends_of};
+use counter::places::Places;
 
 // The spare cells of each kind.
-#[derive(Clone, Copy)]
+#[derive(Clone, Copy, Debug, PartialEq, Eq)]
 pub struct Room {
     pub high: usize,
     pub low: usize,
@@ -17,29 +17,26 @@ pub struct Room {
 fn cells_between(below: usize, above: usize) -> usize
     ensures { result ≡ between below above }
 {
-    if above <= below {
-        return 0;
-    }
-    above - below - 1
+    above.saturating_sub(below).saturating_sub(1)
 }
 
-// The room between two ends.
+// The High cells lie below this address.
+const BORDER: usize = 256;
+
+// The room between two ends. The High cells end at the border, or at the lowest Low pointer where that is below it.
+#[tactic(auto, unfolding(crate::specs::Room::left_of))]
 pub fn room_left(ends: Ends) -> Room
     ensures { result ≡ left_of ends }
 {
-    let low = cells_between(ends.highest, ends.lowest);
-    if 256 < ends.lowest {
-        return Room {
-            high: cells_between(ends.highest, 256),
-            low,
-        };
+    Room {
+        high: cells_between(ends.highest, BORDER.min(ends.lowest)),
+        low: cells_between(ends.highest, ends.lowest),
     }
-    Room { high: low, low }
 }
 
 // The room in an image, counted from its whole map.
-pub fn room_of(image: &[u8], m: usize, s: usize, e: usize) -> Room
-    ensures { result ≡ room_of two (places m s e) image.now }
+pub fn room_of(image: &[u8], p: Places) -> Room
+    ensures { result ≡ room_of two p image.now }
 {
-    room_left(ends_of(image, m, s, e))
+    room_left(ends_of(image, p))
 }

@@ -1,6 +1,6 @@
 -- No second answer: each public function's contract leaves one end (document 01, "What the promises owe", (a)). A theorem is
--- named after its function; they stand crate by crate.
-use mathlib.Core.Path.{◌≡◌, sym, ap, ◌∙◌}
+-- named after its function; they stand crate by crate. Of `console::read_full` there is none: what an input gives is fixed by nothing.
+use mathlib.Core.Path.{◌≡◌, refl, sym, ap, ◌∙◌}
 use seplogic.Ra.Ura.{Ura}
 use base.Logic.{SProp, ent, emp}
 use contract.Conj.{conj}
@@ -9,7 +9,7 @@ use contract.Monad.{Fun}
 use types.Logic.{Logic}
 use prog.Memory.{Memory}
 use prog.Routine.{Routine}
-use Rattle.sole.specs.Sole.{Sole, left, handed, filled}
+use Rattle.sole.specs.Sole.{Sole, left, handed, filled, filled_rows}
 use Rattle.code.specs.contracts.codes.code_of
 use Rattle.code.specs.contracts.codes.distance_of
 use Rattle.code.specs.contracts.gray.gray_of
@@ -35,7 +35,8 @@ use Rattle.cells.specs.contracts.put.put
 use Rattle.cells.specs.contracts.mains.Mains.steady
 use Rattle.cells.specs.contracts.mains.Mains.behind
 use Rattle.cells.specs.contracts.mains.put_on
-use Rattle.cells.proofs.Cuts.{tells_one}
+use Rattle.cells.specs.Cut.{put_shows, walk_shows, row_shows}
+use Rattle.cells.proofs.Cuts.{says_one}
 use Rattle.cells.specs.contracts.row.walk
 use Rattle.cells.specs.contracts.row.put_row
 use Rattle.counter.specs.contracts.doors.open as opens
@@ -85,30 +86,36 @@ use Rattle.lyre.specs.contracts.lyre_card_at
 use Rattle.lyre.specs.contracts.lyre_card_write
 use Rattle.lyre.specs.contracts.lyre_tray
 use Rattle.intelhex.specs.declared.Answer as hex
+use Rattle.intelhex.specs.Doors.{Outcome as Read, outcome as comes_to}
+use Rattle.intelhex.proofs.Told.{written_alike, read_alike}
 use Rattle.intelhex.specs.contracts.write_image
 use Rattle.intelhex.specs.contracts.read_image
-use Rattle.card.specs.declared.Answer as card
-use Rattle.card.specs.declared.Written as written
+use Rattle.card.specs.Answers as card
+use Rattle.card.specs.Doors.{Written, Outcome, left_by}
 use Rattle.card.proofs.RoundTrip.{told_one}
+use Rattle.card.proofs.Refused.{wear_in, chip_in, length_in, card_of, wear_back, chip_back, length_back, left_back, card_back}
 use Rattle.card.specs.contracts.write_card
 use Rattle.card.specs.contracts.write_rows
 use Rattle.card.specs.contracts.read_card
 use Rattle.card.specs.contracts.answer_at
 use Rattle.card.specs.contracts.answer_of_text
 use Rattle.card.specs.contracts.answer_of_chip
-use Rattle.dumps.specs.Tray.{outcome}
+use Rattle.dumps.specs.Tray.{Outcome as Filling, outcome, tray_code}
+use Rattle.dumps.specs.declared.tray.NotATray.{NotATray}
 use Rattle.dumps.specs.contracts.tray.read_tray
 use Rattle.text.specs.Text.{Wrote}
 use Rattle.text.specs.Reading.{Small}
-use Rattle.text.proofs.Forms.{line_ends, finds_one}
+use Rattle.text.proofs.Forms.{line_ends, seen, finds_one}
 use Rattle.text.specs.contracts.reading.read_decimal_line
 use Rattle.text.specs.contracts.write_byte
 use Rattle.text.specs.contracts.write_bytes
 use Rattle.text.specs.contracts.write_decimal
 use Rattle.text.specs.contracts.decimal_length
 use Rattle.text.specs.contracts.write_signed
-use Rattle.text.specs.contracts.write_decimal_line
-use Rattle.text.specs.contracts.write_signed_line
+use Rattle.text.specs.contracts.write_line
+use Rattle.text.specs.contracts.Decimal.write
+use Rattle.card.specs.declared.Refusal.{Refusal}
+use Rattle.std.specs.Prelude.{Result, Ok, Err, cond, eqb}
 use Prim.Native.Nat.{ℕ}
 use mathlib.Core.List.{List}
 
@@ -142,14 +149,47 @@ hex_out a = record { code = a.code; line = a.line; length = a.length }
 abbrev card_out : card.Answer → plain_card.Card
 card_out a = record { code = a.code; used = a.used; left = a.left; time = a.time }
 
-abbrev text_out : written.Written → plain_text.Text
+abbrev text_out : Written → plain_text.Text
 text_out w = record { code = w.code; length = w.length }
+
+-- a result of Intel HEX is seen by what it tells in numbers, and by the bytes as they are left
+one_result : {R : Type 0} {one two : R} {first second : hex.Answer} {after after' : List ℕ} {gives : Read}
+    → (first ≡ second → one ≡ two) → comes_to first after ≡ gives → comes_to second after' ≡ gives → filled one after ≡ filled two after'
+one_result tells left right =
+    let alike = left ∙ sym right in
+    let result = tells (ap (λ (o : Read). o.answer) alike) in λ i. filled (result i) ((ap (λ (o : Read). o.left) alike) i)
 
 -- bytes written are seen by where they end and by the text as it is left
 one_text :
     {before bytes after after' : List ℕ} {at next next' : ℕ} → Wrote before at bytes next after → Wrote before at bytes next' after'
     → filled next after ≡ filled next' after'
 one_text one two = λ i. filled ((one.ends ∙ sym two.ends) i) ((one.holds ∙ sym two.holds) i)
+
+-- and so is a card that was written
+written_one : (one two : Result ℕ Refusal) {after after' : List ℕ} {left : Outcome} → left_by one after ≡ left → left_by two after' ≡ left
+    → filled one after ≡ filled two after'
+written_one one two {after} {after'} first second =
+    let same = first ∙ sym second in
+    let result : one ≡ two = sym (length_back one after) ∙ ap length_in same ∙ length_back two after' in
+    let text : after ≡ after' = sym (left_back one after) ∙ ap (λ (o : Outcome). o.after) same ∙ left_back two after' in
+    λ i. filled (result i) (text i)
+
+-- what a tray was answered, back from its code
+abbrev tray_in : ℕ → Result Unit NotATray
+tray_in code = cond (eqb code 0) (Ok tt) (Err (record {}))
+
+tray_back : (r : Result Unit NotATray) → tray_in (tray_code r) ≡ r
+tray_back (Ok _) = refl
+tray_back (Err _) = refl
+
+-- so it is seen by that result, and by the two rows as they are left
+tray_one : (one two : Result Unit NotATray) {counts counts' codes codes' : List ℕ} {left : Filling}
+    → outcome (tray_code one) counts codes ≡ left → outcome (tray_code two) counts' codes' ≡ left
+    → filled_rows one counts codes ≡ filled_rows two counts' codes'
+tray_one one two first second =
+    let same = first ∙ sym second in
+    let result : one ≡ two = sym (tray_back one) ∙ ap (λ (o : Filling). tray_in o.code) same ∙ tray_back two in
+    λ i. filled_rows (result i) ((ap (λ (o : Filling). o.counts) same) i) ((ap (λ (o : Filling). o.codes) same) i)
 
 module _ {M : Type 1} (𝓤 : Ura M) where
   -- what follows from two facts
@@ -229,15 +269,15 @@ module _ {M : Type 1} (𝓤 : Ura M) where
 
     pub put_on_one : Sole 𝓤 put_on.ended (put_on.clauses 𝓛 mem run) (λ κs r at. left r (at.0.now) (at.1.0.now))
     put_on_one _ _ _ _ _ _ _ =
-        both (λ one two. let e = tells_one one two in λ i. left (record { lost = e.0 i; held = (e.1 i).answer; writes = (e.1 i).writes }) (e.1 i).after.cells (e.1 i).after.lives)
+        both (λ one two. let e = says_one put_shows (λ x y t u p. (λ i. record { held = (p i).answer; writes = (p i).writes }, λ i. (p i).after)) _ _ _ _ one two in λ i. left (e.0 i) (e.1 i).cells (e.1 i).lives)
 
     pub walk_one : Sole 𝓤 walk.ended (walk.clauses 𝓛 mem run) (λ κs r at. left r (at.0.now) (at.1.0.now))
     walk_one _ _ _ _ _ _ _ =
-        both (λ one two. let e = tells_one one two in λ i. left (record { lost = e.0 i; found = (e.1 i).answer; writes = (e.1 i).writes; tried = (e.1 i).tried }) (e.1 i).after.cells (e.1 i).after.lives)
+        both (λ one two. let e = says_one walk_shows (λ x y t u p. (λ i. record { found = (p i).answer; writes = (p i).writes; tried = (p i).tried }, λ i. (p i).after)) _ _ _ _ one two in λ i. left (e.0 i) (e.1 i).cells (e.1 i).lives)
 
     pub put_row_one : Sole 𝓤 put_row.ended (put_row.clauses 𝓛 mem run) (λ κs r at. left r (at.0.now) (at.1.0.now))
     put_row_one _ _ _ _ _ _ _ =
-        both (λ one two. let e = tells_one one two in λ i. left (record { lost = e.0 i; failed = (e.1 i).answer; writes = (e.1 i).writes }) (e.1 i).after.cells (e.1 i).after.lives)
+        both (λ one two. let e = says_one row_shows (λ x y t u p. (λ i. record { failed = (p i).answer; writes = (p i).writes }, λ i. (p i).after)) _ _ _ _ one two in λ i. left (e.0 i) (e.1 i).cells (e.1 i).lives)
 
     pub open_one : Sole 𝓤 opens.ended (opens.clauses 𝓛 mem run) (λ κs r at. left r (at.0.now) (at.1.0.now))
     open_one _ _ _ _ _ _ _ = same (λ v. left v.says v.leaves.cells v.leaves.lives)
@@ -260,7 +300,7 @@ module _ {M : Type 1} (𝓤 : Ura M) where
     pub part_of_one : Sole 𝓤 part_of.ended (part_of.clauses 𝓛 mem run) (λ κs r at. r)
     part_of_one _ _ _ _ _ _ _ = same (λ r. r)
 
-    pub map_part_one : Sole 𝓤 map_part.ended (map_part.clauses 𝓛 mem run) (λ κs r at. handed r.ref_ptr r.now (at.1.1.1.1.1.0.now))
+    pub map_part_one : Sole 𝓤 map_part.ended (map_part.clauses 𝓛 mem run) (λ κs r at. handed r.ref_ptr r.now (at.1.1.1.0.now))
     map_part_one _ _ _ _ _ _ _ = both (λ one two. λ i. handed ((one.points ∙ sym two.points) i) ((one.holds ∙ sym two.holds) i) ((one.says ∙ sym two.says) i))
 
     pub ends_of_one : Sole 𝓤 ends_of.ended (ends_of.clauses 𝓛 mem run) (λ κs r at. r)
@@ -336,10 +376,10 @@ module _ {M : Type 1} (𝓤 : Ura M) where
     lyre_card_write_one _ _ _ _ _ _ _ = same (λ v. filled (text_out v.written) v.after)
 
     pub write_image_one : Sole 𝓤 write_image.ended (write_image.clauses 𝓛 mem run) (λ κs r at. filled r (at.1.0.now))
-    write_image_one _ _ _ _ _ _ _ = same (λ v. filled v.answer v.left)
+    write_image_one _ _ _ one two _ _ = both (one_result (written_alike one two))
 
     pub read_image_one : Sole 𝓤 read_image.ended (read_image.clauses 𝓛 mem run) (λ κs r at. filled r (at.1.0.now))
-    read_image_one _ _ _ _ _ _ _ = same (λ v. filled v.answer v.left)
+    read_image_one _ _ _ one two _ _ = both (one_result (read_alike one two))
 
     pub write_byte_one : Sole 𝓤 write_byte.ended (write_byte.clauses 𝓛 mem run) (λ κs r at. filled r (at.1.0.now))
     write_byte_one _ _ _ _ _ _ _ = both one_text
@@ -353,35 +393,38 @@ module _ {M : Type 1} (𝓤 : Ura M) where
     pub write_signed_one : Sole 𝓤 write_signed.ended (write_signed.clauses 𝓛 mem run) (λ κs r at. filled r (at.1.0.now))
     write_signed_one _ _ _ _ _ _ _ = both one_text
 
-    pub write_decimal_line_one : Sole 𝓤 write_decimal_line.ended (write_decimal_line.clauses 𝓛 mem run) (λ κs r at. filled r (at.1.1.0.now))
-    write_decimal_line_one _ _ _ _ _ _ _ = both one_text
+    -- whatever the number's type, and the text that it says of a number
+    module _ (N : _) (shown : _) (written : _) (clone : _) (cloned : _) where
+      pub write_line_one : Sole 𝓤 (write_line.ended N shown written clone cloned) (write_line.clauses N shown written clone cloned 𝓛 mem run) (λ κs r at. filled r (at.1.1.0.now))
+      write_line_one _ _ _ _ _ _ _ = both one_text
 
-    pub write_signed_line_one : Sole 𝓤 write_signed_line.ended (write_signed_line.clauses 𝓛 mem run) (λ κs r at. filled r (at.1.1.0.now))
-    write_signed_line_one _ _ _ _ _ _ _ = both one_text
+      -- and of whatever writes such a number
+      pub write_one : Sole 𝓤 (write.ended N shown written clone cloned) (write.clauses N shown written clone cloned 𝓛 mem run) (λ κs r at. filled r (at.1.0.now))
+      write_one _ _ _ _ _ _ _ = both one_text
 
     pub decimal_length_one : Sole 𝓤 decimal_length.ended (decimal_length.clauses 𝓛 mem run) (λ κs r at. r)
     decimal_length_one _ _ _ _ _ _ _ = both (λ one two. one.0 ∙ sym two.0)
 
-    pub read_decimal_line_one : Sole 𝓤 read_decimal_line.ended (read_decimal_line.clauses 𝓛 mem run) (λ κs r at. r)
-    read_decimal_line_one _ _ _ _ _ _ _ = both (finds_one (line_ends _ Small))
+    pub read_decimal_line_one : Sole 𝓤 read_decimal_line.ended (read_decimal_line.clauses 𝓛 mem run) (λ κs r at. seen r)
+    read_decimal_line_one _ _ _ one two _ _ = both (finds_one (line_ends _ Small) _ one two)
 
     pub write_card_one : Sole 𝓤 write_card.ended (write_card.clauses 𝓛 mem run) (λ κs r at. filled r (at.1.0.now))
-    write_card_one _ _ _ _ _ _ _ = same (λ v. filled v.written v.after)
+    write_card_one _ _ _ one two _ _ = both (written_one one two)
 
     pub write_rows_one : Sole 𝓤 write_rows.ended (write_rows.clauses 𝓛 mem run) (λ κs r at. filled r (at.1.1.1.1.0.now))
-    write_rows_one _ _ _ _ _ _ _ = same (λ v. filled v.written v.after)
+    write_rows_one _ _ _ one two _ _ = both (written_one one two)
 
     pub read_card_one : Sole 𝓤 read_card.ended (read_card.clauses 𝓛 mem run) (λ κs r at. r)
-    read_card_one _ _ _ _ _ _ _ = both told_one
+    read_card_one _ _ _ one two _ _ = both (λ first second. sym (card_back one) ∙ ap card_of (told_one first second) ∙ card_back two)
 
     pub answer_at_one : Sole 𝓤 answer_at.ended (answer_at.clauses 𝓛 mem run) (λ κs r at. r)
-    answer_at_one _ _ _ _ _ _ _ = same (λ r. r)
+    answer_at_one _ _ _ one two _ _ = both (λ first second. sym (wear_back one) ∙ ap wear_in (first ∙ sym second) ∙ wear_back two)
 
     pub answer_of_text_one : Sole 𝓤 answer_of_text.ended (answer_of_text.clauses 𝓛 mem run) (λ κs r at. r)
-    answer_of_text_one _ _ _ _ _ _ _ = both told_one
+    answer_of_text_one _ _ _ one two _ _ = both (λ first second. sym (wear_back one) ∙ ap wear_in (told_one first second) ∙ wear_back two)
 
     pub answer_of_chip_one : Sole 𝓤 answer_of_chip.ended (answer_of_chip.clauses 𝓛 mem run) (λ κs r at. r)
-    answer_of_chip_one _ _ _ _ _ _ _ = same (λ r. r)
+    answer_of_chip_one _ _ _ one two _ _ = both (λ first second. sym (chip_back one) ∙ ap chip_in (first ∙ sym second) ∙ chip_back two)
 
-    pub read_tray_one : Sole 𝓤 read_tray.ended (read_tray.clauses 𝓛 mem run) (λ κs r at. outcome r (at.1.1.1.1.1.0.now) (at.1.1.1.1.1.1.0.now))
-    read_tray_one _ _ _ _ _ _ _ = same (λ v. v)
+    pub read_tray_one : Sole 𝓤 read_tray.ended (read_tray.clauses 𝓛 mem run) (λ κs r at. filled_rows r (at.1.1.1.0.now) (at.1.1.1.1.0.now))
+    read_tray_one _ _ _ one two _ _ = both (tray_one one two)

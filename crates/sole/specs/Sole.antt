@@ -35,6 +35,15 @@ pub record Filled (R : Type 0) : Type 0 where
 abbrev pub filled : {R : Type 0} → R → List ℕ → Filled R
 filled r bytes = record { result = r; bytes = bytes }
 
+-- a result beside two lent rows as they are left
+pub record FilledRows (R : Type 0) : Type 0 where
+  pub result : R
+  pub counts : List ℕ
+  pub codes : List ℕ
+
+abbrev pub filled_rows : {R : Type 0} → R → List ℕ → List ℕ → FilledRows R
+filled_rows r counts codes = record { result = r; counts = counts; codes = codes }
+
 -- what a caller sees of an end
 abbrev pub Sight : Ended → Type 0 → Type 0
 Sight T Seen = (κs : Lfts T.signature.lifetimes) → Res T.signature κs → AtExit T κs → Seen

@@ -1,5 +1,6 @@
--- The lines of what a card answers fit in their text.
+-- The lines of what a card answers fit in their text; and the code of that answer.
 use Prim.Native.Nat.{ℕ, ◌+◌, ◌≤◌, ◌<◌, ◌^◌}
+use mathlib.Core.Path.{◌≡◌, refl}
 use native.Mathlib.Omega.{arith}
 use lib.IntN.{ℤ}
 use lib.ListN.{length}
@@ -8,7 +9,17 @@ use mir.Val.{SFits}
 use Rattle.text.specs.Text.{bytes_of, decimal, signed, line}
 use Rattle.text.proofs.Decimals.{length_u32, length_u64, length_i64}
 use Rattle.text.proofs.Writing.{length_line}
+use Rattle.std.specs.Prelude.{Result, Ok, Err}
+use Rattle.card.specs.declared.Wear.{Wear}
+use Rattle.card.specs.declared.Refusal.{Refusal}
+use Rattle.card.specs.Refusals.{code_of}
+use Rattle.card.specs.Answers.{answered}
 use Rattle.stylus.specs.Prints.{first_longest, last_longest}
+
+-- the code of an answer, by number or as it was given
+pub same_code : (answer : Result Wear Refusal) → code_of answer ≡ (answered answer).code
+same_code (Ok wear) = refl
+same_code (Err refusal) = refl
 
 pub first_fit : (read code used : ℕ) → read < 2 ^ 32 → code < 2 ^ 32 → used < 2 ^ 32
     → length (line (bytes_of "read") (decimal read)) + length (line (bytes_of "code") (decimal code)) + length (line (bytes_of "used") (decimal used)) ≤ first_longest

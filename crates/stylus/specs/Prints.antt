@@ -1,7 +1,7 @@
 -- What `stylus` prints of a card and a chip, and what it says of a refusal (document 02, P4).
 use Rattle.std.specs.Prelude.{ℕ, ◌+◌, cond, List, [], ◌++◌, eqb, ℤ}
 use Rattle.text.specs.Text.{bytes_of, decimal, signed, line}
-use Rattle.card.specs.declared.ChipAnswer.{ChipAnswer}
+use Rattle.card.specs.Answers.{ChipAnswer}
 
 -- the code of the read, the card's own code and the turns used; turns left, and the cutting time
 abbrev pub first_lines : ℕ → ℕ → ℕ → List ℕ

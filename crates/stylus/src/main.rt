@@ -9,74 +9,40 @@ ghost use Rattle.std.specs.Prelude.{◌≤◌, length};
 ghost use Rattle.counter.specs.Layout.{two};
 ghost use Rattle.counter.specs.Places.{setting_a};
 ghost use Rattle.counter.specs.Doors.{read_of};
-ghost use Rattle.card.specs.Answers.{chip_refused, chip_answer_of};
+ghost use Rattle.card.specs.Answers.{chip_refused, chip_answer_of, answered_chip};
 ghost use Rattle.card.specs.Doors.{Told};
 
-use card::{Answer, ChipAnswer};
+use card::ChipAnswer;
+use console::read_full;
+use counter::places::Places;
 use std::env::Env;
 use std::fs::{File, Files};
-use std::io::{Print, Read};
-
-// Setting A: the map's place, the area's first and last cell.
-const MAP: usize = 1;
-
-const START: usize = 25;
-
-const END: usize = 128;
+use std::io::Print;
 
 // What the card that a text shows answers at the count of an image of setting A.
 fn answer(text: &[u8], image: &[u8]) -> ChipAnswer
-    ensures { Told text.now (λ c. chip_answer_of (length c.speeds) c (read_of two setting_a image.now)) (chip_refused (read_of two setting_a image.now) 5) result }
+    ensures { Told text.now (λ c. chip_answer_of (length c.speeds) c (read_of two setting_a image.now)) (chip_refused (read_of two setting_a image.now) 5) (answered_chip result) }
 {
-    let read = card::read_card(text);
-    if read.code != 0 {
-        let found = counter::doors::read_count(image, MAP, START, END);
-        return ChipAnswer {
-            read: found.code,
-            answer: Answer {
-                code: read.code,
-                used: 0,
-                left: 0,
-                time: 0,
-            },
-        };
+    match card::read_card(text) {
+        Ok(card) => card::answer_of_chip(card, image, Places::SETTING_A),
+        Err(refusal) => ChipAnswer {
+            read: counter::doors::read_count(image, Places::SETTING_A).code,
+            answer: Err(refusal),
+        },
     }
-    let held = read.card;
-    card::answer_of_chip(held, image, MAP, START, END)
 }
 
-// Reads until a buffer is full, the input ends or a read fails, and answers how many bytes stand at the buffer's start.
-fn read_full(input: &mut impl Read, buffer: &mut [u8]) -> usize
-    ensures { result ≤ length buffer.new }
-{
-    let mut done = 0;
-    while done < buffer.len() {
-        let Ok(more) = input.read(&mut buffer[done..]) else {
-            break;
-        };
-        if more == 0 {
-            break;
-        }
-        done += more;
-    }
-    done
-}
-
-// Says something on standard error. If that cannot be written either, there is nobody left to tell.
-fn say(errors: &impl Print, words: &[u8]) {
-    let _ = errors.write_all(words);
-}
-
-// Prints what a card answers, and says what a refusal means.
+// Prints what a card answers, and says what a refusal means. Lines that are cut short must not pass for whole; where what is said cannot be
+// written either, there is nobody left to tell.
 fn tell(output: &impl Print, errors: &impl Print, answer: ChipAnswer) {
     let mut text = [0u8; lines::LONGEST];
     let end = lines::fill(answer, &mut text);
     if output.write_all(&text[..end]).is_err() {
-        say(errors, b"the lines cannot be written\n");
+        let _ = errors.write_all(b"the lines cannot be written\n");
     }
     let mut said = [0u8; words::LONGEST];
     let last = words::fill(answer, &mut said);
-    say(errors, &said[..last]);
+    let _ = errors.write_all(&said[..last]);
 }
 
 // The file that the argument names, where it can be opened. A name that is no UTF-8 opens nothing: ./lyre hands on that of a descriptor.
@@ -93,14 +59,13 @@ fn main(rt: HostRuntime) {
     let mut text = [0u8; 65536];
     let size = read_full(&mut rt.stdin(), &mut text);
     if size == 65536 {
-        say(
-            &rt.stderr(),
+        let _ = rt.stderr().write_all(
             b"card: 65536 bytes or more: the text is not in form, or has more than 64 runs\n",
         );
         return;
     }
     let Some(mut file) = chip(&rt) else {
-        say(&rt.stderr(), b"chip: cannot be opened\n");
+        let _ = rt.stderr().write_all(b"chip: cannot be opened\n");
         return;
     };
     let mut image = [0u8; 4097];

@@ -57,6 +57,14 @@ length_decimal (suc k) n below =
       | no not_large ↦ omega (arith, length_small n (omega arith))
     ]
 
+-- and one from a power of ten on has as many
+pub length_power : (k n : ℕ) → 10 ^ k ≤ n → n < 10 * 10 ^ k → length (decimal n) ≡ k + 1
+length_power zero n from below = length_small n below
+length_power (suc k) n from below =
+    let least : 10 ^ k * 10 ≤ n = rw pow-suc at from in
+    let most : n < 10 * (10 ^ k * 10) = rw pow-suc at below in
+    omega (arith, length_more n (omega (arith, least, most)), length_power k (n / 10) (omega (arith, least)) (omega (arith, most)))
+
 -- there is a first digit
 pub length_positive : (n : ℕ) → 0 < length (decimal n)
 length_positive n =

@@ -1,10 +1,11 @@
-// Lines of key=value written into a lent text. A function that writes does so from an index on, asks for room for
-// what it writes, and answers the index past it. Module `reading` reads them.
+// Lines of key=value written into a lent text. A function that writes does so from an index on, asks for room for what it writes, and
+// answers the index past it. Module `reading` reads them. The text and the index go side by side, and printing is by hand and not by
+// Display, since `Wrote`, which docs/PROMISES.md names, says every byte of both, and there is no heap.
 #![tactic(auto)]
 
 pub mod reading;
 
-ghost use Rattle.std.specs.Prelude.{◌+◌, ◌%◌, ◌<◌, ◌≤◌, ◌≡◌, [], ◌∷◌, nat_abs, length};
+ghost use Rattle.std.specs.Prelude.{◌+◌, ◌%◌, ◌<◌, ◌≤◌, ◌≡◌, ℕ, List, [], ◌∷◌, length};
 ghost use Rattle.text.specs.Text.{digit, decimal, signed, line, Wrote};
 
 // Writes one byte.
@@ -21,11 +22,9 @@ pub fn write_bytes(bytes: &[u8], text: &mut [u8], at: usize) -> usize
     requires { at + length bytes.now ≤ length text.old }
     ensures { Wrote text.old at bytes.now result text.new }
 {
-    let mut done = 0;
     let mut next = at;
-    while done < bytes.len() {
-        next = write_byte(bytes[done], text, next);
-        done += 1;
+    for byte in bytes {
+        next = write_byte(*byte, text, next);
     }
     next
 }
@@ -35,7 +34,7 @@ fn write_digit(n: u64, text: &mut [u8], at: usize) -> usize
     requires { at < length text.old }
     ensures { Wrote text.old at (digit (n % 10) ∷ []) result text.new }
 {
-    write_byte(48 + (n % 10) as u8, text, at)
+    write_byte(b'0' + (n % 10) as u8, text, at)
 }
 
 // Writes a plain decimal: the digits of a tenth, if there are any, and the last digit.
@@ -51,26 +50,11 @@ pub fn write_decimal(n: u64, text: &mut [u8], at: usize) -> usize
 }
 
 // How long a plain decimal is.
+#[tactic(auto, using(crate::proofs::Decimals::length_power, crate::proofs::Decimals::length_small))]
 pub fn decimal_length(n: u64) -> usize
     ensures { (result ≡ length (decimal n)) × (result ≤ 20) }
 {
-    let mut rest = n;
-    let mut length = 1;
-    while rest >= 10 {
-        rest = rest / 10;
-        length += 1;
-    }
-    length
-}
-
-// The magnitude of a signed number, right at the least one too.
-fn magnitude(n: i64) -> u64
-    ensures { result ≡ nat_abs n }
-{
-    if n < 0 {
-        return (!n) as u64 + 1;
-    }
-    n as u64
+    n.checked_ilog10().map_or(1, |power| power as usize + 1)
 }
 
 // Writes a plain decimal, with a minus sign where negative.
@@ -80,29 +64,61 @@ pub fn write_signed(n: i64, text: &mut [u8], at: usize) -> usize
 {
     if n < 0 {
         let next = write_byte(b'-', text, at);
-        return write_decimal(magnitude(n), text, next);
+        return write_decimal(n.unsigned_abs(), text, next);
     }
-    write_decimal(magnitude(n), text, at)
+    write_decimal(n.unsigned_abs(), text, at)
 }
 
-// Writes the line of a key and a plain decimal.
-pub fn write_decimal_line(key: &[u8], value: u64, text: &mut [u8], at: usize) -> usize
-    requires { at + length (line key.now (decimal value)) ≤ length text.old }
-    ensures { Wrote text.old at (line key.now (decimal value)) result text.new }
+// A number that is written as text. `write_decimal` and `write_signed` stand beside it, since they are public and promised.
+pub trait Decimal: Copy {
+    // the text of a number
+    ghost shown: { Self → List ℕ };
+
+    fn write(self, text: &mut [u8], at: usize) -> usize
+        requires { at + length (shown self) ≤ length text.old }
+        ensures { Wrote text.old at (shown self) result text.new };
+}
+
+// One body for three types: `usize` has no `Into<u64>`, and no macro may write an impl.
+impl Decimal for u32 {
+    ghost shown = { decimal };
+
+    fn write(self, text: &mut [u8], at: usize) -> usize {
+        write_decimal(u64::from(self), text, at)
+    }
+}
+
+impl Decimal for u64 {
+    ghost shown = { decimal };
+
+    fn write(self, text: &mut [u8], at: usize) -> usize {
+        write_decimal(self, text, at)
+    }
+}
+
+impl Decimal for usize {
+    ghost shown = { decimal };
+
+    fn write(self, text: &mut [u8], at: usize) -> usize {
+        write_decimal(self as u64, text, at)
+    }
+}
+
+impl Decimal for i64 {
+    ghost shown = { signed };
+
+    fn write(self, text: &mut [u8], at: usize) -> usize {
+        write_signed(self, text, at)
+    }
+}
+
+// Writes the line of a key and a number.
+pub fn write_line<N: Decimal>(key: &[u8], value: N, text: &mut [u8], at: usize) -> usize
+    requires { at + length (line key.now (N.shown value)) ≤ length text.old }
+    ensures { Wrote text.old at (line key.now (N.shown value)) result text.new }
 {
     let equals = write_bytes(key, text, at);
     let start = write_byte(b'=', text, equals);
-    let end = write_decimal(value, text, start);
-    write_byte(b'\n', text, end)
-}
-
-// Writes the line of a key and a plain decimal with its sign.
-pub fn write_signed_line(key: &[u8], value: i64, text: &mut [u8], at: usize) -> usize
-    requires { at + length (line key.now (signed value)) ≤ length text.old }
-    ensures { Wrote text.old at (line key.now (signed value)) result text.new }
-{
-    let equals = write_bytes(key, text, at);
-    let start = write_byte(b'=', text, equals);
-    let end = write_signed(value, text, start);
+    let end = value.write(text, start);
     write_byte(b'\n', text, end)
 }

@@ -2,7 +2,7 @@
 -- leaves the text alone.
 use Prim.Native.Nat.{ℕ, ◌≤◌}
 use mathlib.Core.Path.{◌≡◌, refl, ap, ◌∙◌}
-use mathlib.Core.Bool.{true, false, not}
+use mathlib.Core.Bool.{true, false}
 use mathlib.Core.List.{List}
 use native.Mathlib.Nat.{zero-add}
 use native.Mathlib.Omega.{arith}
@@ -28,7 +28,7 @@ module _ (image text : List ℕ) (room : longest ≤ length text) where
     code_same : answer.code ≡ (write_of image text).answer.code
     code_same = ap (λ (o : Outcome). o.answer.code) same
 
-    pub taken : answer.code ≡ 0 → (false ≡ not (sized (length image))) × Wrote text 0 (told_of image) answer.length after
+    pub taken : answer.code ≡ 0 → (sized (length image) ≡ true) × Wrote text 0 (told_of image) answer.length after
     unfolding told_of
     taken zero = choose (sized (length image))
         (λ right. rw (right, ap (λ (o : Outcome). o.answer.length) same, ap (λ (o : Outcome). o.left) same) (refl, (written right).0))

@@ -2,11 +2,9 @@
 -- those of the rows, any other is none.
 use Prim.Native.Nat.{ℕ, ◌+◌, ◌/◌, ◌≤◌, ◌<◌}
 use mathlib.Core.Path.{◌≡◌, refl, ap}
-use mathlib.Core.Bool.{true, false}
 use mathlib.Core.List.{List, flatten}
 use native.Mathlib.Omega.{arith}
 use borrow.Author.Tests.{ne_eqb}
-use lib.Dec.{eqb}
 use lib.ListN.{length, get_or}
 use Rattle.code.proofs.TabulateLaws.{alike}
 use Rattle.counter.specs.Layout.{two}
@@ -20,10 +18,11 @@ module _ (tray counts codes : List ℕ) {says : ℕ} {left-counts left-codes : L
     (same : outcome says left-counts left-codes ≡ tray_of (read_of two setting_a) image_long tray counts codes) where
   -- there is no tray
   pub refused : most_images ≤ length counts → most_images ≤ length codes → (says ≡ 0 → ⊥)
-      → (true ≡ eqb (images_of tray) 0) × (told_of tray ≡ refusal)
+      → (images_of tray ≡ 0) × (told_of tray ≡ refusal)
   unfolding told_of
   refused counts-room codes-room other =
-      rw (none_read (read_of two setting_a) image_long tray counts codes same counts-room codes-room other) (refl, refl)
+      let none = none_read (read_of two setting_a) image_long tray counts codes same counts-room codes-room other in
+      (none, rw none refl)
 
   module _ (good : says ≡ 0) where
     entries : Entries (read_of two setting_a) image_long tray left-counts left-codes (images_of tray)
@@ -41,9 +40,11 @@ module _ (tray counts codes : List ℕ) {says : ℕ} {left-counts left-codes : L
         → line_of (i + 1) (answer_at tray i).code (answer_at tray i).count ≡ line_of (i + 1) (get_or left-codes i 0) (get_or left-counts i 0)
     line_read i inside = rw (entries.code i inside, entries.count i inside)
 
-    pub told : (false ≡ eqb (images_of tray) 0)
+    pub told : (0 < images_of tray)
         × (told_of tray ≡ lines_of (λ i. get_or left-codes i 0) (λ i. get_or left-counts i 0) (length tray / image_long))
     unfolding told_of
-    told =
-        rw (ne_eqb (images_of tray) 0 (λ none. omega (arith, none, entries.some)), ← many)
-        (refl, ap flatten (alike _ _ (images_of tray) line_read))
+    told = (
+      entries.some,
+      rw (ne_eqb (images_of tray) 0 (λ none. omega (arith, none, entries.some)), ← many)
+          (ap flatten (alike _ _ (images_of tray) line_read)),
+    )

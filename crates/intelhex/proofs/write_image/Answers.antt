@@ -9,17 +9,17 @@ use Rattle.intelhex.proofs.write_image.Goals as goal
 pub returns-then-not-is_sized : goal.returns-then-not-is_sized
 unfolding write_of
 returns-then-not-is_sized c =
-    rw (c.refused.ensures, sym c.is_sized.ensures ∙ c.if-not-is_sized.true)
+    rw (sym c.is_sized.ensures ∙ c.if-not-is_sized.true)
 
 pub returns-then-text-length_for : goal.returns-then-text-length_for
 unfolding write_of
 returns-then-text-length_for c =
     let short : length c.args.text.now < length (standard_text c.args.image.now) =
     omega (arith, length_standard c.args.image.now) in
-    rw (c.refused-then-text-length_for.ensures, sym c.is_sized.ensures ∙ c.if-not-is_sized.false, lt-ltb _ _ short)
+    rw (sym c.is_sized.ensures ∙ c.if-not-is_sized.false, lt-ltb _ _ short)
 
-pub write_lines-length-requires : goal.write_lines-length-requires
-write_lines-length-requires c =
+pub write_lines-requires : goal.write_lines-requires
+write_lines-requires c =
     ((sized_bounds _ (sym c.is_sized.ensures ∙ c.if-not-is_sized.false)).1, omega (arith, length_standard c.args.image.now))
 
 pub returns : goal.returns
@@ -27,4 +27,4 @@ unfolding write_of
 returns c =
     let room : length (standard_text c.args.image.now) ≤ length c.args.text.now = omega (arith, length_standard c.args.image.now) in
     rw (sym c.is_sized.ensures ∙ c.if-not-is_sized.false, le-ltb _ _ room)
-    (λ i. outcome (answer 0 0 ((rw zero-add at c.write_lines-length.ensures.ends) i)) ((rw zero-add at c.write_lines-length.ensures.holds) i))
+    (λ i. outcome (answer 0 0 ((rw zero-add at c.write_lines.ensures.ends) i)) ((rw zero-add at c.write_lines.ensures.holds) i))

@@ -33,17 +33,17 @@ write_byte-next-requires c = omega (arith, ap length (with_minus _ c.ranges.n _ 
 
 pub write_decimal-requires : goal.write_decimal-requires
 write_decimal-requires c =
-    omega (arith, ap length (with_minus _ c.ranges.n _ c.magnitude.ensures c.if-n-lt0.true))
+    omega (arith, ap length (with_minus _ c.ranges.n _ c.unsigned_abs.ensures.value c.if-n-lt0.true))
 
 pub returns-then-n-lt0 : goal.returns-then-n-lt0
 returns-then-n-lt0 c =
-    let is = with_minus _ c.ranges.n _ c.magnitude.ensures c.if-n-lt0.true in
+    let is = with_minus _ c.ranges.n _ c.unsigned_abs.ensures.value c.if-n-lt0.true in
     rw is (wrote_more _ _ (rw is at c.requires) c.write_byte-next.ensures c.write_decimal.ensures)
 
 pub write_decimal-requires-2 : goal.write_decimal-requires-2
 write_decimal-requires-2 c =
-    rw (← plain _ c.ranges.n _ c.magnitude-2.ensures c.if-n-lt0.false) c.requires
+    rw (← plain _ c.ranges.n _ c.unsigned_abs-2.ensures.value c.if-n-lt0.false) c.requires
 
 pub returns : goal.returns
 returns c =
-    rw (plain _ c.ranges.n _ c.magnitude-2.ensures c.if-n-lt0.false) c.write_decimal-2.ensures
+    rw (plain _ c.ranges.n _ c.unsigned_abs-2.ensures.value c.if-n-lt0.false) c.write_decimal-2.ensures

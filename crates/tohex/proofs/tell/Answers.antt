@@ -1,12 +1,13 @@
 -- `tell` meets its contract: the door's text, or the line that is written over nothing.
-use Rattle.std.proofs.Common.{refl, arith}
+use Rattle.std.proofs.Common.{refl}
+use Rattle.intelhex.proofs.Told.{no_refusal}
 use Rattle.tohex.proofs.Answers.{taken, unfit}
 use Rattle.tohex.proofs.tell.Goals as goal
 
-pub returns-then-answer-eq0 : goal.returns-then-answer-eq0
-returns-then-answer-eq0 c = taken _ _ c.requires c.write_image-answer.ensures (omega arith)
+pub returns-in-Ok : goal.returns-in-Ok
+returns-in-Ok c = record { text = taken _ _ c.requires c.in-Ok.ensures refl; refusal = tt }
 
-pub returns : goal.returns
-returns c =
-    let (wrong, kept, line) = unfit _ _ c.requires c.write_image-answer.ensures (omega arith) in
-    rw (wrong, line) (refl, rw kept at c.write_bytes-refusal.ensures)
+pub returns-in-Err : goal.returns-in-Err
+returns-in-Err c =
+    let (wrong, kept, line) = unfit _ _ c.requires c.in-Err.ensures (no_refusal _) in
+    record { text = tt; refusal = (wrong, rw line (rw kept at c.write_bytes-end.ensures)) }

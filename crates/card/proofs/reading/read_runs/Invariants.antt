@@ -1,16 +1,6 @@
--- What the loop of `read_runs` keeps: the first `done` runs were read. The measure is how many are left.
-use Prim.Native.Nat.{◌-◌}
-use mathlib.Core.Path.{◌≡◌}
-use lib.ListN.{length}
+-- What the loop of `read_runs` keeps: the first `at` runs were read.
 use Rattle.card.proofs.RowLaws.{Passed}
 use Rattle.card.proofs.reading.read_runs.Given as goal
 
-abbrev pub invariant-loop-done : goal.invariant-loop-done
-invariant-loop-done l = record {
-  passed : Passed l.text l.at l.runs l.done l.next l.speeds l.turns;
-  speeds_long : length l.speeds ≡ length l.initial.speeds;
-  turns_long : length l.turns ≡ length l.initial.turns;
-}
-
-abbrev pub decreases-loop-done : goal.decreases-loop-done
-decreases-loop-done l = l.runs - l.done
+abbrev pub invariant-loop-at : goal.invariant-loop-at
+invariant-loop-at l = Passed l.text l.runs l.at l.rest l.speeds l.turns

@@ -1,18 +1,11 @@
 -- `runs_length` meets its contract.
-use native.Mathlib.Omega.{arith}
-use Rattle.card.proofs.WriteLaws.{lengths_end, lengths_next}
+use Rattle.std.proofs.Common.{◌≡◌, rules, arith}
+use Rattle.std.proofs.iter.runs.Made.{chains}
+use Rattle.card.specs.Inside.{runs_length}
+use Rattle.card.proofs.WriteLaws.{lengths_most}
 use Rattle.card.proofs.writing.runs_length.Goals as goal
-
-pub loop-done-preserved : goal.loop-done-preserved
-loop-done-preserved c =
-    let inv = c.loop-done.invariant in
-    record {
-      inside = omega (arith, c.loop-done-test.true);
-      small = omega (arith, inv.small, c.run_length-sum.ensures.1);
-      rest = omega (arith, inv.rest, c.run_length-sum.ensures.0, lengths_next c.args.turns.now c.loop-done.done c.loop-done-test.true);
-    }
 
 pub returns : goal.returns
 returns c =
-    let inv = c.loop-done.invariant in
-    (omega (arith, inv.rest, lengths_end c.args.turns.now c.loop-done.done c.loop-done-test.false), omega (arith, inv.small, inv.inside, c.requires))
+    let is : c.sum.result ≡ runs_length c.args.turns.now = search (rules, chains) in
+    (is, omega (arith, is, c.requires, lengths_most c.args.turns.now (λ k. (c.type_inv.turns k).fits)))

@@ -8,4 +8,4 @@ pub returns : goal.returns
 returns c =
     let room = head_lines c.args.fitted c.args.allowed c.args.runs in
     wrote_on _ _ (omega (arith, c.requires, room))
-    (wrote_on _ _ (omega (arith, c.requires, room)) c.write_decimal_line-first.ensures c.write_decimal_line-second.ensures) c.write_decimal_line.ensures
+    (wrote_on _ _ (omega (arith, c.requires, room)) c.write_line-first.ensures c.write_line-second.ensures) c.write_line.ensures

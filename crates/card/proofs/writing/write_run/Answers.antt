@@ -6,4 +6,4 @@ use Rattle.card.proofs.writing.write_run.Goals as goal
 
 pub returns : goal.returns
 returns c =
-    wrote_on _ _ (omega (arith, c.requires, run_lines c.args.speed c.args.turns)) c.write_decimal_line-next.ensures c.write_decimal_line.ensures
+    wrote_on _ _ (omega (arith, c.requires, run_lines c.args.speed c.args.turns)) c.write_line-next.ensures c.write_line.ensures

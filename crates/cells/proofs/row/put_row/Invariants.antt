@@ -1,5 +1,5 @@
 -- What the loop of `row::put_row` keeps.
-use Prim.Native.Nat.{◌-◌, ◌≤◌}
+use Prim.Native.Nat.{◌≤◌}
 use mathlib.Core.Path.{◌≡◌}
 use lib.ListN.{length}
 use Rattle.cells.specs.Chip.{chip}
@@ -11,12 +11,8 @@ use Rattle.cells.proofs.row.put_row.Given as goal
 abbrev pub invariant-loop-i : goal.invariant-loop-i
 invariant-loop-i l =
     record {
-      most : l.i ≤ length l.bytes;
       few : l.writes ≤ l.i;
       cells_kept : length l.image ≡ length l.initial.image;
       lives_kept : length l.lives ≡ length l.initial.lives;
       rest : Left l.writes 0 l.mains.power l.mains.torn (put_row l.bytes l.at (chip l.initial.image l.initial.lives)) (chip l.initial.image l.initial.lives) (row_left l.bytes l.at l.i (chip l.image l.lives)) (chip l.image l.lives);
     }
-
-abbrev pub decreases-loop-i : goal.decreases-loop-i
-decreases-loop-i l = length l.bytes - l.i

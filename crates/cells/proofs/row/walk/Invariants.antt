@@ -1,5 +1,4 @@
 -- What the loop of `row::walk` keeps.
-use Prim.Native.Nat.{◌-◌, ◌≤◌}
 use mathlib.Core.Path.{◌≡◌}
 use lib.ListN.{length}
 use Rattle.cells.specs.Chip.{chip}
@@ -11,11 +10,7 @@ use Rattle.cells.proofs.row.walk.Given as goal
 abbrev pub invariant-loop-j : goal.invariant-loop-j
 invariant-loop-j l =
     record {
-      most : l.j ≤ l.cells;
       cells_kept : length l.image ≡ length l.initial.image;
       lives_kept : length l.lives ≡ length l.initial.lives;
       rest : Left l.j l.j l.mains.power l.mains.torn (walk l.cells l.way l.from l.byte (chip l.initial.image l.initial.lives)) (chip l.initial.image l.initial.lives) (walk_left l.cells l.way l.from l.byte l.j (chip l.image l.lives)) (chip l.image l.lives);
     }
-
-abbrev pub decreases-loop-j : goal.decreases-loop-j
-decreases-loop-j l = l.cells - l.j

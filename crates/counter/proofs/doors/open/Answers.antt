@@ -2,7 +2,6 @@
 use Rattle.std.proofs.Common.{sym, ap, ◌∙◌, arith}
 use Rattle.cells.specs.Chip.{chip}
 use Rattle.counter.specs.declared.verdict.Answer.{Answer}
-use Rattle.counter.specs.Places.{places}
 use Rattle.counter.specs.Verdict.{outcome, outcome_of}
 use Rattle.counter.specs.Doors.{beginning, open_of}
 use Rattle.counter.proofs.DoorViews.{outcome_refused, cut_steady, chip_fitted, open_unpaired, open_unfit, open_unmarked, open_marked}
@@ -20,15 +19,15 @@ returns-then-lives-image c =
 
 pub begin-requires : goal.begin-requires
 begin-requires c =
-    chip_fitted two _ _ c.if-lives-image.false (sym c.standing_of-standing.ensures ∙ c.in-Unmarked.is)
+    chip_fitted two _ _ c.if-lives-image.false (sym c.standing_of.ensures ∙ c.in-Unmarked.is)
 
 pub returns-in-Unmarked : goal.returns-in-Unmarked
 unfolding open_of
 returns-in-Unmarked c =
-    let unmarked = sym c.standing_of-standing.ensures ∙ c.in-Unmarked.is in
+    let unmarked = sym c.standing_of.ensures ∙ c.in-Unmarked.is in
     let paired = c.if-lives-image.false in
     let s = c.args in
-    let p = places s.m s.s s.e in
+    let p = s.p in
     let lent = chip s.image.now s.lives.now in
     let few = opening_few {layout = two} {p = p} {s = lent} (fitted_ready (chip_fitted two p lent paired unmarked)) in
     c.begin.ensures
@@ -40,10 +39,10 @@ unfolding open_of
 returns-in-Unfit c =
     let s = c.args in
     ap (λ (a : Answer). outcome a (chip s.image.now s.lives.now)) c.refusal_of-in-Unfit.ensures
-    ∙ outcome_refused (open_unfit two _ _ c.if-lives-image.false (sym c.standing_of-standing.ensures ∙ c.in-Unfit.is))
+    ∙ outcome_refused (open_unfit two _ _ c.if-lives-image.false (sym c.standing_of.ensures ∙ c.in-Unfit.is))
 
 pub returns-in-Marked : goal.returns-in-Marked
 unfolding open_of
 returns-in-Marked c =
     c.reopen.ensures
-    ∙ ap outcome_of (sym (open_marked two _ _ c.if-lives-image.false (sym c.standing_of-standing.ensures ∙ c.in-Marked.is)))
+    ∙ ap outcome_of (sym (open_marked two _ _ c.if-lives-image.false (sym c.standing_of.ensures ∙ c.in-Marked.is)))

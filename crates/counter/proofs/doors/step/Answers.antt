@@ -1,11 +1,9 @@
 -- `doors::step` keeps its promise.
-use Rattle.std.proofs.Common.{◌≡◌, ℤ, sym, ap, ◌∙◌, to_z-of_z, w64, rules}
+use Rattle.std.proofs.Common.{sym, ap, ◌∙◌}
 use Rattle.cells.specs.Chip.{chip}
 use Rattle.counter.specs.declared.verdict.Answer.{Answer}
-use Rattle.counter.specs.declared.verdict.Verdict.TheVariants.{Good}
-use Rattle.counter.specs.Places.{places}
 use Rattle.counter.specs.Verdict.{outcome, outcome_of}
-use Rattle.counter.specs.Doors.{chip_verdict, stepping, step_of}
+use Rattle.counter.specs.Doors.{step_of}
 use Rattle.counter.proofs.GoodVerdicts.{verdict_good, below_last}
 use Rattle.counter.proofs.DoorViews.{outcome_refused, chip_verdict_lem, good_settled, step_unpaired, step_refused, step_last, step_on}
 use Rattle.counter.specs.Layout.{two}
@@ -18,53 +16,32 @@ returns-then-lives-image c =
     ap (λ (a : Answer). outcome a (chip s.image.now s.lives.now)) c.refusal_of.ensures
     ∙ outcome_refused (step_unpaired two _ _ c.if-lives-image.true)
 
-pub returns-then-count : goal.returns-then-count
+-- ## Behind a read
+
+pub returns-then-read : goal.returns-then-read
 unfolding step_of
-returns-then-count c =
-    let reads : let s = c.args in
-    chip_verdict two (places s.m s.s s.e) (chip s.image.now s.lives.now) ≡ c.verdict_of-found.result.verdict =
-    chip_verdict_lem two _ _ c.if-lives-image.false ∙ sym c.verdict_of-found.ensures.0 in
-    let good : let s = c.args in
-    chip_verdict two (places s.m s.s s.e) (chip s.image.now s.lives.now) ≡ Good c.in-Good.count c.in-Good.lag =
-    reads ∙ c.in-Good.is in
+returns-then-read c =
     let s = c.args in
-    ap (λ (a : Answer). outcome a (chip s.image.now s.lives.now)) c.refusal_of-then-count.ensures
-    ∙ outcome_refused (step_last two _ _ _ _ good c.if-count.true)
+    let good = chip_verdict_lem two _ _ c.if-lives-image.false ∙ sym c.in-Ok.ensures.0 in
+    ap (λ (a : Answer). outcome a (chip s.image.now s.lives.now)) c.refusal_of-then-read.ensures
+    ∙ outcome_refused (step_last two _ _ _ _ good c.if-read.true)
 
 pub advance-requires : goal.advance-requires
 advance-requires c =
-    let reads : let s = c.args in
-    chip_verdict two (places s.m s.s s.e) (chip s.image.now s.lives.now) ≡ c.verdict_of-found.result.verdict =
-    chip_verdict_lem two _ _ c.if-lives-image.false ∙ sym c.verdict_of-found.ensures.0 in
-    let good : let s = c.args in
-    chip_verdict two (places s.m s.s s.e) (chip s.image.now s.lives.now) ≡ Good c.in-Good.count c.in-Good.lag =
-    reads ∙ c.in-Good.is in
+    let good = chip_verdict_lem two _ _ c.if-lives-image.false ∙ sym c.in-Ok.ensures.0 in
     let fit = good_settled two _ _ good in
-    (fit.0, fit.1, below_last (verdict_good two _ _ good).1.small c.if-count.false, λ e. c.verdict_of-found.ensures.1 e _ _ c.in-Good.is)
+    (fit.0, fit.1, below_last (verdict_good two _ _ good).1.small c.if-read.false, c.in-Ok.ensures.1)
 
-pub returns-else-count : goal.returns-else-count
+pub returns-else-read : goal.returns-else-read
 unfolding step_of
-returns-else-count c =
-    let reads : let s = c.args in
-    chip_verdict two (places s.m s.s s.e) (chip s.image.now s.lives.now) ≡ c.verdict_of-found.result.verdict =
-    chip_verdict_lem two _ _ c.if-lives-image.false ∙ sym c.verdict_of-found.ensures.0 in
-    let good : let s = c.args in
-    chip_verdict two (places s.m s.s s.e) (chip s.image.now s.lives.now) ≡ Good c.in-Good.count c.in-Good.lag =
-    reads ∙ c.in-Good.is in
+returns-else-read c =
     let s = c.args in
-    let count = c.in-Good.count in
-    let lag = c.in-Good.lag in
-    let exact = to_z-of_z {w = w64} {z = lag} (search rules) in
-    c.advance.ensures
-    ∙ ap (λ (z : ℤ). outcome_of (stepping two (places s.m s.s s.e) count z (chip s.image.now s.lives.now))) exact
-    ∙ ap outcome_of (sym (step_on two _ _ count lag good c.if-count.false))
+    let good = chip_verdict_lem two _ _ c.if-lives-image.false ∙ sym c.in-Ok.ensures.0 in
+    c.advance.ensures ∙ ap outcome_of (sym (step_on two _ _ _ _ good c.if-read.false))
 
-pub returns-in-Refused : goal.returns-in-Refused
+pub returns-in-Err : goal.returns-in-Err
 unfolding step_of
-returns-in-Refused c =
-    let reads : let s = c.args in
-    chip_verdict two (places s.m s.s s.e) (chip s.image.now s.lives.now) ≡ c.verdict_of-found.result.verdict =
-    chip_verdict_lem two _ _ c.if-lives-image.false ∙ sym c.verdict_of-found.ensures.0 in
+returns-in-Err c =
     let s = c.args in
-    ap (λ (a : Answer). outcome a (chip s.image.now s.lives.now)) c.refusal_of-in-Refused.ensures
-    ∙ outcome_refused (step_refused two _ _ _ (reads ∙ c.in-Refused.is))
+    ap (λ (a : Answer). outcome a (chip s.image.now s.lives.now)) c.refusal_of-in-Err.ensures
+    ∙ outcome_refused (step_refused two _ _ _ (chip_verdict_lem two _ _ c.if-lives-image.false ∙ sym c.in-Err.ensures.0))

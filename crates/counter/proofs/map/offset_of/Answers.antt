@@ -1,10 +1,10 @@
 -- `map::offset_of` meets its contract.
-use Rattle.std.proofs.Common.{sym}
-use Rattle.counter.proofs.Offsets.{offset_low, offset_high}
+use Rattle.std.proofs.Common.{sym, ◌∙◌}
+use Rattle.counter.proofs.Offsets.{low_slot, high_slot, offset_low, offset_high}
 use Rattle.counter.proofs.map.offset_of.Goals as goal
 
-pub returns-then-nibble-lt3 : goal.returns-then-nibble-lt3
-returns-then-nibble-lt3 c = sym (offset_low _ c.if-nibble-lt3.true)
+pub returns-in-Low : goal.returns-in-Low
+returns-in-Low c = sym (offset_low _ (low_slot _ (sym c.of.ensures ∙ c.in-Low.is)))
 
-pub returns : goal.returns
-returns c = sym (offset_high _ c.if-nibble-lt3.false)
+pub returns-in-High : goal.returns-in-High
+returns-in-High c = sym (offset_high _ (high_slot _ (sym c.of.ensures ∙ c.in-High.is)))

@@ -1,40 +1,29 @@
 -- `map::pointer_of` meets its contract.
-use Rattle.std.proofs.Common.{◌≡◌, ◌+◌, ◌≤◌, length, sym, arith}
-use Rattle.counter.specs.Map.{byte_at, offset_of}
-use Rattle.counter.proofs.Offsets.{offset_low, offset_high, pointer_low, pointer_high}
+use Rattle.std.proofs.Common.{◌+◌, sym, ◌∙◌, arith}
+use Rattle.counter.proofs.Offsets.{low_slot, high_slot, offset_low, offset_high, pointer_low, pointer_high}
 use Rattle.counter.proofs.map.pointer_of.Goals as goal
 
 pub bounds-map-at : goal.bounds-map-at
-bounds-map-at c =
-    let inside : offset_of c.args.slot + 2 ≤ length c.args.map.now =
-    omega (arith, offset_low c.args.slot c.if-slot-lt3.true, c.requires.1) in omega (arith, inside)
+bounds-map-at c = let low = low_slot _ (sym c.of.ensures ∙ c.in-Low.is) in omega (arith, offset_low _ low)
 
 pub overflow_add-at : goal.overflow_add-at
-overflow_add-at c =
-    let inside : offset_of c.args.slot + 2 ≤ length c.args.map.now =
-    omega (arith, offset_low c.args.slot c.if-slot-lt3.true, c.requires.1) in omega (arith, inside)
+overflow_add-at c = let low = low_slot _ (sym c.of.ensures ∙ c.in-Low.is) in omega (arith, offset_low _ low)
 
-pub bounds-map-at-then-slot-lt3 : goal.bounds-map-at-then-slot-lt3
-bounds-map-at-then-slot-lt3 c =
-    let inside : offset_of c.args.slot + 2 ≤ length c.args.map.now =
-    omega (arith, offset_low c.args.slot c.if-slot-lt3.true, c.requires.1) in omega (arith, inside)
+pub bounds-map-at-in-Low : goal.bounds-map-at-in-Low
+bounds-map-at-in-Low c = let low = low_slot _ (sym c.of.ensures ∙ c.in-Low.is) in omega (arith, offset_low _ low)
 
-pub returns-then-slot-lt3 : goal.returns-then-slot-lt3
-returns-then-slot-lt3 c =
-    let at = c.offset_of-at.ensures in
-    let low : byte_at c.args.map.now (offset_of c.args.slot) ≡ c.wide.result
-    = rw (← at) (sym c.wide.ensures.0) in
-    let high : byte_at c.args.map.now (offset_of c.args.slot + 1) ≡ c.wide-then-slot-lt3.result = rw (← at) (sym c.wide-then-slot-lt3.ensures.0) in
-    let pointer = pointer_low c.args.map.now c.args.slot c.if-slot-lt3.true in
-    (omega arith, omega arith, λ h. absurd (omega arith))
+pub bounds-map-offset_of : goal.bounds-map-offset_of
+bounds-map-offset_of c = let high = high_slot _ (sym c.of.ensures ∙ c.in-High.is) in omega (arith, offset_high _ high)
 
-pub bounds-map-at-2 : goal.bounds-map-at-2
-bounds-map-at-2 c =
-    omega (arith, offset_high c.args.slot c.if-slot-lt3.false, c.requires.1)
+pub returns-in-Low : goal.returns-in-Low
+returns-in-Low c =
+    let low = low_slot _ (sym c.of.ensures ∙ c.in-Low.is) in
+    let first = c.type_inv.map c.offset_of-at.result in
+    let second = c.type_inv.map (c.offset_of-at.result + 1) in
+    (rw (pointer_low _ _ low, ← c.offset_of-at.ensures, c.from.ensures, c.from-in-Low.ensures), omega arith, λ h. absurd (omega arith))
 
-pub returns : goal.returns
-returns c =
-    let at = c.offset_of-at-2.ensures in
-    let byte : byte_at c.args.map.now (offset_of c.args.slot) ≡ c.wide-2.result = rw (← at) (sym c.wide-2.ensures.0) in
-    let pointer = pointer_high c.args.map.now c.args.slot c.if-slot-lt3.false in
-    (omega arith, omega arith, λ h. c.wide-2.ensures.1)
+pub returns-in-High : goal.returns-in-High
+returns-in-High c =
+    let high = high_slot _ (sym c.of.ensures ∙ c.in-High.is) in
+    let byte = c.type_inv.map c.offset_of.result in
+    (rw (pointer_high _ _ high, ← c.offset_of.ensures, c.from-in-High.ensures), omega arith, λ h. omega arith)

@@ -5,4 +5,4 @@ use Rattle.code.proofs.MendedLaws.{counts_same}
 use Rattle.counter.proofs.mended.counted.Goals as goal
 
 pub returns : goal.returns
-returns c = c.mended_bits.ensures ∙ counts_same 16 _ _ (λ k l. ap reading_of (c.data_of-bytes.ensures k l))
+returns c = c.mended_bits.ensures ∙ counts_same 16 _ _ (λ k l. ap reading_of (c.data_of.ensures k l))

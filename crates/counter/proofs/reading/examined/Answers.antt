@@ -1,13 +1,16 @@
 -- `reading::examined` meets its contract: sound pointers lie in the image.
-use mathlib.Core.Bool.{false≢true}
-use Rattle.std.proofs.Common.{◌≡◌, length, sym, ◌∙◌, arith}
+use Rattle.std.proofs.Common.{◌≡◌, ℕ, ◌<◌, true, List, Result, Ok, Err, IfOk, sym, ◌∙◌, arith}
+use Rattle.counter.specs.declared.places.Places.{Places}
+use Rattle.counter.specs.declared.reading.Count.{Count}
+use Rattle.counter.specs.declared.verdict.Refusal.{Refusal}
+use Rattle.counter.specs.Store.{slot_code}
+use Rattle.counter.specs.Inside.{ExactIf}
 use Rattle.counter.specs.Map.{map_in, pointer_of, sound}
-use Rattle.counter.specs.Reading.{examine}
+use Rattle.counter.specs.Reading.{data_at, examine}
 use Rattle.counter.proofs.Settings.{good_placed, length_good_lem}
-use Rattle.counter.proofs.MapBytes.{map_whole}
 use Rattle.counter.proofs.SoundPointers.{test_sound}
 use Rattle.counter.proofs.Ready.{sound_reaches}
-use Rattle.counter.specs.Layout.{two}
+use Rattle.counter.specs.Layout.{two, slots}
 use Rattle.counter.proofs.reading.examined.Goals as goal
 
 pub cells-map-requires : goal.cells-map-requires
@@ -15,13 +18,9 @@ cells-map-requires c = let placed = good_placed two _ _ c.requires.1 in omega ar
 
 pub is_sound-requires : goal.is_sound-requires
 is_sound-requires c =
-    let map : let s = c.args in c.cells-map.result.now ≡ map_in two s.p s.image.now =
-    rw (← c.at.ensures) c.cells-map.ensures in
-    let whole : length c.cells-map.result.now ≡ 24 =
-    rw map (map_whole _ (good_placed two _ _ c.requires.1)) in
     let placed = good_placed two _ _ c.requires.1 in
     let long = length_good_lem two _ c.requires.0 in
-    (whole, omega arith)
+    omega arith
 
 pub returns-then-not-is_sound : goal.returns-then-not-is_sound
 unfolding examine
@@ -30,7 +29,7 @@ returns-then-not-is_sound c =
     rw (← c.at.ensures) c.cells-map.ensures in
     let tested : let s = c.args in
     sound two s.p (pointer_of (map_in two s.p s.image.now)) ≡ c.is_sound.result =
-    rw (← map) (sym c.is_sound.ensures) in (rw (tested ∙ c.if-not-is_sound.true), λ e. absurd (false≢true e))
+    rw (← map) (sym c.is_sound.ensures) in (rw (tested ∙ c.if-not-is_sound.true), tt)
 
 pub found_in-requires : goal.found_in-requires
 found_in-requires c =
@@ -42,6 +41,12 @@ found_in-requires c =
     rw map
     (sound_reaches _ (good_placed two _ _ c.requires.1) (test_sound two _ _ (tested ∙ c.if-not-is_sound.false)))
 
+-- the cells of the map's slots are those of the image's
+exact_here : (p : Places) (cells : List ℕ) {map : List ℕ} (found : Result Count Refusal) → map ≡ map_in two p cells
+    → IfOk found (λ read. read.exact ≡ true → (k : ℕ) → k < slots two → data_at cells map k ≡ slot_code read.count k) → ExactIf two p found cells
+exact_here p cells (Ok read) same held = rw same at held
+exact_here p cells (Err why) same held = tt
+
 pub returns : goal.returns
 unfolding examine
 returns c =
@@ -51,4 +56,4 @@ returns c =
     sound two s.p (pointer_of (map_in two s.p s.image.now)) ≡ c.is_sound.result =
     rw (← map) (sym c.is_sound.ensures) in
     let tested = tested ∙ c.if-not-is_sound.false in
-    (rw (tested, ← map) c.found_in.ensures.0, rw (← map) c.found_in.ensures.1)
+    (rw (tested, ← map) c.found_in.ensures.0, exact_here c.args.p c.args.image.now _ map c.found_in.ensures.1)

@@ -11,24 +11,21 @@ new_same f g same = every_same 16 _ _ (λ j l. every_same j _ _ (λ i m. λ t. n
 
 pub loop-slot-init : goal.loop-slot-init
 unfolding every
-loop-slot-init c = record { most = omega arith; all = refl }
+loop-slot-init c = refl
 
 pub returns-then-not-is_new : goal.returns-then-not-is_new
 returns-then-not-is_new c =
     sym
     (sym (new_same _ _ c.pointers_of-pointers.ensures)
-    ∙ every_not 16 _ c.loop-slot.slot c.loop-slot-test.true (sym c.is_new.ensures ∙ c.if-not-is_new.true))
+    ∙ every_not 16 _ c.loop-slot.slot (omega arith) (sym c.is_new.ensures ∙ c.if-not-is_new.true))
 
 pub loop-slot-preserved : goal.loop-slot-preserved
 loop-slot-preserved c =
     let loop = c.loop-slot in
-    record {
-      most = omega arith;
-      all = every_more loop.slot _ loop.invariant.all (sym c.is_new.ensures ∙ c.if-not-is_new.false);
-    }
+    every_more loop.slot _ loop.invariant (sym c.is_new.ensures ∙ c.if-not-is_new.false)
 
 pub returns : goal.returns
 returns c =
     let loop = c.loop-slot in
     let end : loop.slot ≡ 16 = omega arith in
-    sym (sym (new_same _ _ c.pointers_of-pointers.ensures) ∙ rw end at loop.invariant.all)
+    sym (sym (new_same _ _ c.pointers_of-pointers.ensures) ∙ rw end at loop.invariant)

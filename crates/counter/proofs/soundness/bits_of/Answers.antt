@@ -18,10 +18,5 @@ pub loop-n-preserved : goal.loop-n-preserved
 loop-n-preserved c =
     let loop = c.loop-n in
     let n = loop.n in
-    record {
-      least = omega arith;
-      most = omega arith;
-      marks =
-          rw (c.with_bit-bits-in-loop-n.ensures, c.with_bit-bits.ensures, c.pointer_of.ensures.0, c.pointer_of-in-loop-n.ensures.0)
-          (marks_same (marks_more (marks_more loop.invariant.marks n) (8 + n)) (λ k o. passed c.args.from n k (omega arith) o) (omega arith));
-    }
+    rw (c.with_bit-bits-in-loop-n.ensures, c.with_bit-bits.ensures, c.pointer_of.ensures.0, c.pointer_of-in-loop-n.ensures.0)
+    (marks_same (marks_more (marks_more loop.invariant n) (8 + n)) (λ k o. passed c.args.from n k (omega arith) o) (omega arith))

@@ -9,24 +9,23 @@ use Rattle.counter.proofs.soundness.in_order.Goals as goal
 
 pub loop-slot-init : goal.loop-slot-init
 unfolding every gap_to
-loop-slot-init c = record { most = omega arith; left = c.whole_area-gap.ensures; all = refl }
+loop-slot-init c = record { left = c.whole-gap.ensures; all = refl }
 
 pub returns-then-not-may_try : goal.returns-then-not-may_try
 returns-then-not-may_try c =
     let tested :
     let s = c.args in
     may_try s.p (kind_of c.loop-slot.slot) (gap_to c.loop-slot.slot s.p (pointer_of s.map.now)) (pointer_of s.map.now c.loop-slot.slot) ≡ c.may_try.result =
-    rw (← c.loop-slot.invariant.left, ← c.pointer_of-a.ensures.0) (sym c.may_try.ensures) in sym (every_not _ _ c.loop-slot.slot c.loop-slot-test.true (tested ∙ c.if-not-may_try.true))
+    rw (← c.loop-slot.invariant.left, ← c.pointer_of-a.ensures.0, ← c.of-kind.ensures) (sym c.may_try.ensures) in sym (every_not _ _ c.loop-slot.slot (omega arith) (tested ∙ c.if-not-may_try.true))
 
 pub loop-slot-preserved : goal.loop-slot-preserved
 loop-slot-preserved c =
     let tested :
     let s = c.args in
     may_try s.p (kind_of c.loop-slot.slot) (gap_to c.loop-slot.slot s.p (pointer_of s.map.now)) (pointer_of s.map.now c.loop-slot.slot) ≡ c.may_try.result =
-    rw (← c.loop-slot.invariant.left, ← c.pointer_of-a.ensures.0) (sym c.may_try.ensures) in
+    rw (← c.loop-slot.invariant.left, ← c.pointer_of-a.ensures.0, ← c.of-kind.ensures) (sym c.may_try.ensures) in
     let loop = c.loop-slot in
     record {
-      most = omega arith;
-      left = c.narrowed-gap.ensures ∙ rw (c.pointer_of-a.ensures.0, loop.invariant.left) (gap_more _ _ _);
+      left = c.narrowed-gap.ensures ∙ rw (c.of-kind.ensures, c.pointer_of-a.ensures.0, loop.invariant.left) (gap_more _ _ _);
       all = every_more loop.slot _ loop.invariant.all (tested ∙ c.if-not-may_try.false);
     }

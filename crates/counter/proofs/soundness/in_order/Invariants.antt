@@ -1,5 +1,5 @@
 -- What the loop of `soundness::in_order` keeps.
-use Rattle.std.proofs.Common.{◌≡◌, ◌-◌, ◌≤◌, true}
+use Rattle.std.proofs.Common.{◌≡◌, true}
 use Rattle.counter.specs.Slots.{kind_of, every}
 use Rattle.counter.specs.Map.{pointer_of}
 use Rattle.counter.specs.Spares.{gap_to, may_try}
@@ -8,10 +8,6 @@ use Rattle.counter.proofs.soundness.in_order.Given as goal
 abbrev pub invariant-loop-slot : goal.invariant-loop-slot
 invariant-loop-slot l =
     record {
-      most : l.slot ≤ 16;
       left : l.gap ≡ gap_to l.slot l.p (pointer_of l.map);
       all : every l.slot (λ k. may_try l.p (kind_of k) (gap_to k l.p (pointer_of l.map)) (pointer_of l.map k)) ≡ true;
     }
-
-abbrev pub decreases-loop-slot : goal.decreases-loop-slot
-decreases-loop-slot l = 16 - l.slot

@@ -1,14 +1,8 @@
 -- What the loop of `soundness::low_border` keeps.
-use Rattle.std.proofs.Common.{ℕ, ◌+◌, ◌-◌, ◌<◌, ◌≤◌}
+use Rattle.std.proofs.Common.{ℕ, ◌+◌, ◌<◌, ◌≤◌}
 use Rattle.counter.specs.Map.{pointer_of}
 use Rattle.counter.proofs.soundness.low_border.Given as goal
 
 abbrev pub invariant-loop-n : goal.invariant-loop-n
 invariant-loop-n l =
-    record {
-      most : l.n ≤ 3;
-      each : (k : ℕ) → k < l.n → (l.border ≤ pointer_of l.map k) × (pointer_of l.map k ≤ l.last) × (l.border ≤ pointer_of l.map (8 + k)) × (pointer_of l.map (8 + k) ≤ l.last);
-    }
-
-abbrev pub decreases-loop-n : goal.decreases-loop-n
-decreases-loop-n l = 3 - l.n
+    (k : ℕ) → k < l.n → (l.border ≤ pointer_of l.map k) × (pointer_of l.map k ≤ l.last) × (l.border ≤ pointer_of l.map (8 + k)) × (pointer_of l.map (8 + k) ≤ l.last)

@@ -7,12 +7,11 @@ use Rattle.counter.proofs.spares.gap_of.Goals as goal
 
 pub loop-slot-init : goal.loop-slot-init
 unfolding gap_to
-loop-slot-init c = record { most = omega arith; left = λ p e. e }
+loop-slot-init c = c.whole-gap.ensures
 
 pub loop-slot-preserved : goal.loop-slot-preserved
 loop-slot-preserved c =
-    let loop = c.loop-slot in
-    record { most = omega arith; left = λ p e. c.narrowed-gap.ensures ∙ rw (c.pointer_of.ensures.0, loop.invariant.left p e) (gap_more _ p _) }
+    c.narrowed-gap.ensures ∙ rw (c.of.ensures, c.pointer_of.ensures.0, c.loop-slot.invariant) (gap_more _ _ _)
 
 pub returns : goal.returns
 unfolding gap_of
@@ -20,4 +19,4 @@ returns c =
     let loop = c.loop-slot in
     let start = c.args in
     let end : loop.slot ≡ 8 * start.layout.copies = omega arith in
-    loop.invariant.left _ c.whole_area-gap.ensures ∙ ap (λ n. gap_to n start.p (pointer_of start.map.now)) end
+    loop.invariant ∙ ap (λ n. gap_to n start.p (pointer_of start.map.now)) end

@@ -1,18 +1,11 @@
 -- `store::mapped` meets its contract.
-use Rattle.std.proofs.Common.{sym, ap, true≢false}
-use Rattle.cells.specs.declared.row.Found.{Found}
-use Rattle.cells.specs.Run.{seen}
 use Rattle.counter.specs.Store.{mapped}
 use Rattle.counter.proofs.store.mapped.Goals as goal
 
-pub returns-in-Nowhere : goal.returns-in-Nowhere
+pub returns-in-None : goal.returns-in-None
 unfolding mapped
-returns-in-Nowhere c =
-    let on = c.in_default.is in
-    record { lost = λ a e. absurd (true≢false cc); whole = λ _ t. ap (λ (f : Found). seen (mapped f) c.args.row.writes 0 t) (sym c.in-Nowhere.is) }
+returns-in-None c = rw c.in-None.is
 
-pub returns-in-At-failed : goal.returns-in-At-failed
+pub returns-in-Some : goal.returns-in-Some
 unfolding mapped
-returns-in-At-failed c =
-    let on = c.in_default.is in
-    record { lost = λ a e. absurd (true≢false cc); whole = λ _ t. ap (λ (f : Found). seen (mapped f) c.args.row.writes 0 t) (sym c.in-At-failed.is) }
+returns-in-Some c = rw c.in-Some.is

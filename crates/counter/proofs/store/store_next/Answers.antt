@@ -1,11 +1,11 @@
 -- `store::store_next` meets its contract: what changes is one nibble, in each copy.
+use Rattle.counter.specs.Verdict.{Work}
 use Rattle.std.proofs.Common.{◌≡◌, ◌+◌, ◌/◌, ◌<◌, sym, ap, ◌∙◌, arith, rules}
 use Rattle.code.specs.Codes.{code_of}
 use Rattle.code.specs.Gray.{gray_of}
 use Rattle.code.specs.Nibbles.{nibble_of}
 use Rattle.code.proofs.ChangeLaws.{step_nibble_small}
 use Rattle.cells.specs.Run.{Run, view}
-use Rattle.counter.specs.declared.verdict.Work.{Work}
 use Rattle.counter.proofs.NextStores.{changed_nibble, next_is}
 use Rattle.counter.proofs.store.store_next.Goals as goal
 

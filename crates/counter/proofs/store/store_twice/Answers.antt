@@ -1,55 +1,49 @@
 -- `store::store_twice` meets its contract: what is stored first leaves the chip fit for the second store.
-use Rattle.std.proofs.Common.{◌≡◌, true, false, sym, ◌∙◌, arith}
-use Rattle.cells.specs.Chip.{chip}
-use Rattle.cells.specs.Log.{write_all}
-use Rattle.cells.proofs.Cuts.{said_as, said_view}
-use Rattle.counter.specs.Map.{map_in, pointer_of, sound}
+use Rattle.std.proofs.Common.{◌≡◌, sym, Err, arith, rules}
+use Rattle.cells.proofs.Cuts.{left_says, said_as, said_view, said_enough}
 use Rattle.counter.specs.Store.{store}
-use Rattle.counter.specs.Inside.{fitted, stopped}
 use Rattle.counter.proofs.Ready.{ready_placed}
 use Rattle.counter.proofs.Fitted.{fitted_ready, ready_short}
 use Rattle.counter.proofs.SoundPointers.{test_sound}
 use Rattle.counter.proofs.Stores.{store_laws}
-use Rattle.counter.proofs.Behind.{works_stopped, works_done, works_view, works_enough, behind_works}
+use Rattle.counter.proofs.Behind.{works_lost, works_stopped, works_done}
 use Rattle.counter.proofs.StoreViews.{store_settled}
 use Rattle.counter.proofs.StoreCosts.{store_few}
 use Rattle.counter.proofs.store.store_twice.Goals as goal
 
-pub returns-then-is_stopped : goal.returns-then-is_stopped
-returns-then-is_stopped c = works_stopped c.store_count-settled.ensures (store _ _ _) (sym c.is_stopped.ensures ∙ c.if-is_stopped.true)
+pub returns-in_err-settled : goal.returns-in_err-settled
+returns-in_err-settled c =
+    let same : c.from_residual.result ≡ Err c.in_err-settled.field-0.0 = search rules in
+    rw same (works_lost c.in_err-settled.ensures (store _ _ _))
+
+pub returns-then-is_err : goal.returns-then-is_err
+returns-then-is_err c = works_stopped c.in_ok-settled.ensures (store _ _ _) (sym c.if-is_err.ensures.value)
+
+pub behind-left-requires : goal.behind-left-requires
+behind-left-requires c = said_enough c.in_ok-settled.ensures
+
+pub store_count-requires-2 : goal.store_count-requires-2
+store_count-requires-2 c = store_settled _ _ _ c.requires.0 c.requires.1 _ (said_view c.in_ok-settled.ensures) (sym c.if-is_err.ensures.value)
+
+pub returns-in_err-stepped : goal.returns-in_err-stepped
+returns-in_err-stepped c =
+    let same : c.from_residual-in_err-stepped.result ≡ Err c.in_err-stepped.field-0.0 = search rules in
+    let logged = (store_laws _ _ _ _ (fitted_ready c.requires.0) (test_sound _ _ _ c.requires.1)).within.logged in
+    let left = works_done c.in_ok-settled.ensures (store _ _ _) (sym c.if-is_err.ensures.value) logged in
+    rw same (left_says left (said_as c.in_err-stepped.ensures c.behind-left.ensures.0 c.behind-left.ensures.1))
 
 pub behind-requires : goal.behind-requires
 behind-requires c =
-    let done : stopped c.store_count-settled.result.work ≡ false =
-    sym c.is_stopped.ensures ∙ c.if-is_stopped.false in works_enough c.store_count-settled.ensures done
-
-pub store_count-requires : goal.store_count-requires
-store_count-requires c =
-    let done : stopped c.store_count-settled.result.work ≡ false =
-    sym c.is_stopped.ensures ∙ c.if-is_stopped.false in
-    let settled : let s = c.args in
-    let cells = c.store_count-settled.new.image in
-    (fitted s.layout s.p (chip cells c.store_count-settled.new.lives) ≡ true) × (sound s.layout s.p (pointer_of (map_in s.layout s.p cells)) ≡ true) =
-    store_settled _ _ _ c.requires.0 c.requires.1 _ (works_view c.store_count-settled.ensures done) done in settled
+    let first = c.in_ok-settled.ensures in
+    let second = c.in_ok-stepped.ensures in
+    let fit = store_settled _ _ _ c.requires.0 c.requires.1 _ (said_view first) (sym c.if-is_err.ensures.value) in
+    let ready = fitted_ready c.requires.0 in
+    let one = store_few _ _ _ _ c.requires.0 c.requires.1 (said_view first) in
+    let other = store_few _ _ _ _ fit.0 fit.1 (said_view second) in
+    (omega (arith, said_enough first, said_enough second, c.behind-left.ensures), omega (arith, one, other, ready_placed ready, ready_short ready))
 
 pub returns : goal.returns
 returns c =
-    let done : stopped c.store_count-settled.result.work ≡ false =
-    sym c.is_stopped.ensures ∙ c.if-is_stopped.false in
-    let settled : let s = c.args in
-    let cells = c.store_count-settled.new.image in
-    (fitted s.layout s.p (chip cells c.store_count-settled.new.lives) ≡ true) × (sound s.layout s.p (pointer_of (map_in s.layout s.p cells)) ≡ true) =
-    store_settled _ _ _ c.requires.0 c.requires.1 _ (works_view c.store_count-settled.ensures done) done in
-    let logged : let s = c.args in
-    let lent = chip s.image.now s.lives.now in
-    (store s.layout s.p s.count lent).after ≡ write_all (store s.layout s.p s.count lent).log lent =
-    (store_laws _ _ _ _ (fitted_ready c.requires.0) (test_sound _ _ _ c.requires.1)).within.logged in
-    let fit = settled in
-    let ready = fitted_ready c.requires.0 in
-    let one = store_few _ _ _ _ c.requires.0 c.requires.1 (works_view c.store_count-settled.ensures done) in
-    behind_works
-    (works_done c.store_count-settled.ensures (store _ _ _) done logged)
-    c.behind-2.ensures
-    c.behind.ensures.2
-    (said_as c.store_count.ensures c.behind.ensures.0 c.behind.ensures.1)
-    (λ on. omega (arith, one, ready_placed ready, ready_short ready, store_few _ _ _ _ fit.0 fit.1 (said_view c.store_count.ensures on)))
+    let logged = (store_laws _ _ _ _ (fitted_ready c.requires.0) (test_sound _ _ _ c.requires.1)).within.logged in
+    let left = works_done c.in_ok-settled.ensures (store _ _ _) (sym c.if-is_err.ensures.value) logged in
+    rw c.behind.ensures (left_says left (said_as c.in_ok-stepped.ensures c.behind-left.ensures.0 c.behind-left.ensures.1))

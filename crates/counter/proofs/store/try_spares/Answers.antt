@@ -9,9 +9,9 @@ use Rattle.counter.proofs.store.try_spares.Goals as goal
 pub walk-requires : goal.walk-requires
 walk-requires c =
     let fits : GapFits (length c.args.image.now) c.args.gap = record { first = c.requires.1; reach = c.requires.2; ordered = c.requires.3; inside = c.requires.4 } in
-    (rw (c.spares_of.ensures, c.way_of.ensures, c.next_of.ensures) (spares_fit (kind_of c.args.slot) fits), c.requires.0)
+    (rw (c.spares.ensures, c.way.ensures, c.next.ensures, c.of-kind.ensures) (spares_fit (kind_of c.args.slot) fits), c.requires.0)
 
 pub returns : goal.returns
 unfolding try_spares
 returns c =
-    rw (← c.spares_of.ensures, ← c.way_of.ensures, ← c.next_of.ensures) c.walk.ensures.says
+    rw (← c.of-kind.ensures, ← c.spares.ensures, ← c.way.ensures, ← c.next.ensures) c.walk.ensures

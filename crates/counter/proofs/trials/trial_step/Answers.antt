@@ -1,14 +1,11 @@
 -- `trials::trial_step` keeps its promise.
-use Rattle.std.proofs.Common.{◌≡◌, ℤ, sym, ap, ◌∙◌, to_z-of_z, w64, rules}
+use Rattle.std.proofs.Common.{ℤ, sym, ap, ◌∙◌, to_z-of_z, w64, rules}
 use Rattle.cells.specs.Chip.{chip}
 use Rattle.cells.specs.Run.{Run}
 use Rattle.cells.specs.Cut.{cut}
 use Rattle.counter.specs.declared.verdict.Answer.{Answer}
-use Rattle.counter.specs.declared.verdict.Verdict.{Verdict}
-use Rattle.counter.specs.declared.verdict.Verdict.TheVariants.{Good}
-use Rattle.counter.specs.Places.{places}
-use Rattle.counter.specs.Verdict.{outcome}
-use Rattle.counter.specs.Doors.{chip_verdict, stepping}
+use Rattle.counter.specs.Verdict.{outcome, Verdict}
+use Rattle.counter.specs.Doors.{stepping}
 use Rattle.counter.specs.Trials.{cut_outcome, trial_step_of}
 use Rattle.counter.proofs.GoodVerdicts.{verdict_good, below_last}
 use Rattle.counter.proofs.DoorViews.{cut_ending, cut_refused, chip_verdict_lem, good_settled, step_unpaired, step_refused, step_last, step_on}
@@ -22,55 +19,38 @@ returns-then-lives-image c =
     ap (λ (a : Answer). outcome a (chip s.image.now s.lives.now)) c.refusal_of.ensures
     ∙ cut_refused _ _ (step_unpaired two _ _ c.if-lives-image.true)
 
-pub returns-then-count : goal.returns-then-count
+-- ## Behind a read
+
+pub returns-then-read : goal.returns-then-read
 unfolding trial_step_of
-returns-then-count c =
-    let reads : let s = c.args in
-    chip_verdict two (places s.m s.s s.e) (chip s.image.now s.lives.now) ≡ c.verdict_of-verdict.result.verdict =
-    chip_verdict_lem two _ _ c.if-lives-image.false ∙ sym c.verdict_of-verdict.ensures.0 in
-    let good : let s = c.args in
-    chip_verdict two (places s.m s.s s.e) (chip s.image.now s.lives.now) ≡ Good c.in-Good.count c.in-Good.lag =
-    reads ∙ c.in-Good.is in
+returns-then-read c =
     let s = c.args in
-    ap (λ (a : Answer). outcome a (chip s.image.now s.lives.now)) c.refusal_of-then-count.ensures
-    ∙ cut_refused _ _ (step_last two _ _ _ _ good c.if-count.true)
+    let good = chip_verdict_lem two _ _ c.if-lives-image.false ∙ sym c.in-Ok.ensures.0 in
+    ap (λ (a : Answer). outcome a (chip s.image.now s.lives.now)) c.refusal_of-then-read.ensures
+    ∙ cut_refused _ _ (step_last two _ _ _ _ good c.if-read.true)
 
 pub store_twice-stored-requires : goal.store_twice-stored-requires
 store_twice-stored-requires c =
-    let reads : let s = c.args in
-    chip_verdict two (places s.m s.s s.e) (chip s.image.now s.lives.now) ≡ c.verdict_of-verdict.result.verdict =
-    chip_verdict_lem two _ _ c.if-lives-image.false ∙ sym c.verdict_of-verdict.ensures.0 in
-    let good : let s = c.args in
-    chip_verdict two (places s.m s.s s.e) (chip s.image.now s.lives.now) ≡ Good c.in-Good.count c.in-Good.lag =
-    reads ∙ c.in-Good.is in
+    let good = chip_verdict_lem two _ _ c.if-lives-image.false ∙ sym c.in-Ok.ensures.0 in
     let fit = good_settled two _ _ good in
-    (fit.0, fit.1, below_last (verdict_good two _ _ good).1.small c.if-count.false)
+    (fit.0, fit.1, below_last (verdict_good two _ _ good).1.small c.if-read.false)
 
-pub returns-else-count : goal.returns-else-count
+pub returns-else-read : goal.returns-else-read
 unfolding trial_step_of
-returns-else-count c =
-    let reads : let s = c.args in
-    chip_verdict two (places s.m s.s s.e) (chip s.image.now s.lives.now) ≡ c.verdict_of-verdict.result.verdict =
-    chip_verdict_lem two _ _ c.if-lives-image.false ∙ sym c.verdict_of-verdict.ensures.0 in
-    let good : let s = c.args in
-    chip_verdict two (places s.m s.s s.e) (chip s.image.now s.lives.now) ≡ Good c.in-Good.count c.in-Good.lag =
-    reads ∙ c.in-Good.is in
+returns-else-read c =
     let s = c.args in
     let lent = chip s.image.now s.lives.now in
-    let count = c.in-Good.count in
-    let lag = c.in-Good.lag in
-    let exact = to_z-of_z {w = w64} {z = lag} (search rules) in
-    ap (λ (a : Answer). outcome a (chip c.store_twice-stored.new.image c.store_twice-stored.new.lives)) c.finished.ensures
-    ∙ cut_ending c.store_twice-stored.ensures _
-    ∙ ap (λ (z : ℤ). cut_outcome (cut s.power s.torn (stepping two (places s.m s.s s.e) count z lent) lent)) exact
-    ∙ ap (λ (r : Run Verdict). cut_outcome (cut s.power s.torn r lent)) (sym (step_on two _ _ count lag good c.if-count.false))
+    let count = c.in-Ok.read.count in
+    let good = chip_verdict_lem two _ _ c.if-lives-image.false ∙ sym c.in-Ok.ensures.0 in
+    let exact = to_z-of_z {w = w64} {z = c.in-Ok.read.lag} (search rules) in
+    ap (λ (a : Answer). outcome a (chip c.store_twice-stored.new.image c.store_twice-stored.new.lives)) c.finished_on.ensures
+    ∙ cut_ending _ c.store_twice-stored.ensures _
+    ∙ ap (λ (z : ℤ). cut_outcome (cut s.mains.power s.mains.torn (stepping two s.p count z lent) lent)) exact
+    ∙ ap (λ (r : Run Verdict). cut_outcome (cut s.mains.power s.mains.torn r lent)) (sym (step_on two _ _ count _ good c.if-read.false))
 
-pub returns-in-Refused : goal.returns-in-Refused
+pub returns-in-Err : goal.returns-in-Err
 unfolding trial_step_of
-returns-in-Refused c =
-    let reads : let s = c.args in
-    chip_verdict two (places s.m s.s s.e) (chip s.image.now s.lives.now) ≡ c.verdict_of-verdict.result.verdict =
-    chip_verdict_lem two _ _ c.if-lives-image.false ∙ sym c.verdict_of-verdict.ensures.0 in
+returns-in-Err c =
     let s = c.args in
-    ap (λ (a : Answer). outcome a (chip s.image.now s.lives.now)) c.refusal_of-in-Refused.ensures
-    ∙ cut_refused _ _ (step_refused two _ _ _ (reads ∙ c.in-Refused.is))
+    ap (λ (a : Answer). outcome a (chip s.image.now s.lives.now)) c.refusal_of-in-Err.ensures
+    ∙ cut_refused _ _ (step_refused two _ _ _ (chip_verdict_lem two _ _ c.if-lives-image.false ∙ sym c.in-Err.ensures.0))

@@ -1,19 +1,18 @@
 -- `verdict::answer_of` meets its contract.
 use Rattle.std.proofs.Common.{ℤ, sym, ap, ◌∙◌, to_z-of_z, w64, rules}
-use Rattle.counter.specs.declared.verdict.Verdict.{Verdict}
-use Rattle.counter.specs.Verdict.{answer, answer_of}
+use Rattle.counter.specs.Verdict.{answer, answer_of, Verdict}
 use Rattle.counter.proofs.verdict.answer_of.Goals as goal
 
-pub returns-in-Good : goal.returns-in-Good
+pub returns-in-Ok : goal.returns-in-Ok
 unfolding answer_of
-returns-in-Good c =
+returns-in-Ok c =
     let s = c.args in
-    ap (λ (z : ℤ). answer 0 c.in-Good.count z 0 s.writes s.tried)
-    (to_z-of_z {w = w64} {z = c.in-Good.lag} (search rules))
-    ∙ ap (λ (v : Verdict). answer_of v s.writes s.tried) (sym c.in-Good.is)
+    ap (λ (z : ℤ). answer 0 c.in-Ok.count z 0 s.writes s.tried)
+    (to_z-of_z {w = w64} {z = c.in-Ok.lag} (search rules))
+    ∙ ap (λ (v : Verdict). answer_of v s.writes s.tried) (sym c.in-Ok.is)
 
-pub returns-in-Refused : goal.returns-in-Refused
+pub returns-in-Err : goal.returns-in-Err
 unfolding answer_of
-returns-in-Refused c =
+returns-in-Err c =
     let s = c.args in
-    c.refusal_of.ensures ∙ ap (λ (v : Verdict). answer_of v s.writes s.tried) (sym c.in-Refused.is)
+    c.refusal_of.ensures ∙ ap (λ (v : Verdict). answer_of v s.writes s.tried) (sym c.in-Err.is)

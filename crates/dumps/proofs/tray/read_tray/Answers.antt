@@ -1,8 +1,9 @@
 -- `read_tray` meets its contract.
-use Prim.Native.Nat.{◌*◌, ◌≤◌}
 use mathlib.Core.Path.{sym, ap, ◌∙◌}
+use Prim.Native.Nat.{◌*◌, ◌≤◌}
 use native.Mathlib.Omega.{arith}
-use borrow.Author.Tests.{le-leb, lt-leb}
+use Rattle.std.proofs.lemmas.Bool.Decides.{nat_tests}
+use borrow.Author.Tests.{le-leb}
 use lib.ListN.{length}
 use Rattle.dumps.specs.Tray.{images_in, tray_of}
 use Rattle.dumps.proofs.Images.{whole_images}
@@ -10,17 +11,7 @@ use Rattle.dumps.proofs.tray.read_tray.Goals as goal
 
 pub returns-then-images-lt1 : goal.returns-then-images-lt1
 unfolding tray_of
-returns-then-images-lt1 c = rw (sym c.images_in-images.ensures, lt-leb 1 _ c.if-images-lt1.true)
-
-pub returns-then-counts-images : goal.returns-then-counts-images
-unfolding tray_of
-returns-then-counts-images c =
-    rw (sym c.images_in-images.ensures, le-leb 1 _ c.if-images-lt1.false, lt-leb _ _ c.if-counts-images.true)
-
-pub returns-then-codes-images : goal.returns-then-codes-images
-unfolding tray_of
-returns-then-codes-images c =
-    rw (sym c.images_in-images.ensures, le-leb 1 _ c.if-images-lt1.false, le-leb _ _ c.if-counts-images.false, lt-leb _ _ c.if-codes-images.true)
+returns-then-images-lt1 c = grind (arith, nat_tests)
 
 pub fill-requires : goal.fill-requires
 fill-requires c =

@@ -5,11 +5,11 @@ use Rattle.intelhex.specs.Inside.{verdict}
 use Rattle.intelhex.proofs.Judging.{end_verdict}
 use Rattle.intelhex.proofs.lines.fault_of.Goals as goal
 
-pub returns-then-kind-gt1 : goal.returns-then-kind-gt1
+pub returns-then-kind-gt-END : goal.returns-then-kind-gt-END
 unfolding verdict lawful
-returns-then-kind-gt1 c =
+returns-then-kind-gt-END c =
     let kind = c.args.kind in
-    rw (ne_eqb kind 0 c.if-kind-eq0.false, ne_eqb kind 1 (λ one. absurd (omega (arith, c.if-kind-gt1.true, one))), lt-ltb 1 kind c.if-kind-gt1.true)
+    rw (ne_eqb kind 0 c.if-kind-eq-DATA.false, ne_eqb kind 1 (λ one. absurd (omega (arith, c.if-kind-gt-END.true, one))), lt-ltb 1 kind c.if-kind-gt-END.true)
     c.other_fault.ensures
 
 pub returns-then-count-ne0 : goal.returns-then-count-ne0

@@ -1,5 +1,5 @@
 -- `read_data` meets its contract: the next byte is added, and stored where all are bytes.
-use Rattle.std.proofs.Common.{refl, ◌∙◌, arith, length-set}
+use Rattle.std.proofs.Common.{refl, arith, length-set}
 use Rattle.intelhex.specs.Signs.{bytes_at, total}
 use Rattle.intelhex.specs.Faults.{some_taken}
 use Rattle.intelhex.proofs.Bytes.{all_next, total_next_byte, looked_next, stored_next}
@@ -7,7 +7,7 @@ use Rattle.intelhex.proofs.lines.read_data.Goals as goal
 
 pub loop-done-init : goal.loop-done-init
 unfolding bytes_at total some_taken
-loop-done-init c = record { inside = omega arith; sums = refl; small = omega arith; looked = λ all. refl; stored = λ all. refl; same = refl }
+loop-done-init c = record { sums = refl; small = omega arith; looked = λ all. refl; stored = λ all. refl; same = refl }
 
 pub loop-done-preserved : goal.loop-done-preserved
 loop-done-preserved c =
@@ -18,13 +18,11 @@ loop-done-preserved c =
     let cells = c.args.cells.now in
     let read = c.byte_at-byte.ensures.0 in
     record {
-      inside = omega (arith, c.loop-done-test.true);
       sums = omega (arith, read, inv.sums, total_next_byte text at loop.done);
       small = omega (arith, c.byte_at-byte.ensures.1, inv.small);
       looked = λ all.
           let before = (all_next text at loop.done all).0 in
-          c.or_taken-twice.ensures
-          ∙ looked_next cells text at c.args.address loop.done (inv.stored before) (inv.looked before) (omega (arith, c.loop-done-test.true, c.requires));
+          looked_next cells text at c.args.address loop.done (inv.stored before) (inv.looked before) (omega (arith, c.loop-done-test.true, c.requires));
       stored = λ all.
           let (before, small) = all_next text at loop.done all in
           stored_next cells text at c.args.address loop.done (inv.stored before) _ read (omega (arith, read, small));

@@ -1,8 +1,8 @@
 -- `write_line` meets its contract: what stands before the data, the data, and what stands behind them.
-use Rattle.std.proofs.Common.{◌/◌, ◌%◌, length, arith}
+use Rattle.std.proofs.Common.{◌/◌, ◌%◌, length, refl, arith}
 use Rattle.intelhex.specs.Signs.{in_digits, two_digits, total}
 use Rattle.text.proofs.Writing.{wrote_on}
-use Rattle.intelhex.proofs.Standard.{line_parts, sum_three}
+use Rattle.intelhex.proofs.Standard.{high_first, line_parts, sum_three}
 use Rattle.intelhex.proofs.records.write_line.Goals as goal
 
 pub write_pairs-sum-requires : goal.write_pairs-sum-requires
@@ -24,6 +24,7 @@ returns c =
     let room = c.requires.2 in
     let address = c.args.address in
     let bytes = c.args.bytes.now in
-    let sum = sum_three (length bytes) (address / 256) (address % 256) (total bytes) c.wrapping_add_u8.ensures.value c.wrapping_add_u8-sum.ensures.value c.write_pairs-sum.ensures.0 in
+    let is = high_first address c.requires.0 c.to_be_bytes.ensures in
+    let sum = sum_three (length bytes) (address / 256) (address % 256) (total bytes) refl refl (rw (is.0, is.1) at c.write_pairs-sum.ensures.0) in
     rw (line_parts address bytes _ sum)
-    (wrote_on _ _ (omega (arith, room, one.ends, three.ends)) (wrote_on _ _ (omega (arith, room, one.ends)) one two) three)
+    (wrote_on _ _ (omega (arith, room, one.ends, three.ends)) (wrote_on _ _ (omega (arith, room, one.ends)) (rw (is.0, is.1) at one) two) three)

@@ -1,13 +1,9 @@
--- What the loop of `copy` keeps: the first k cells were copied. What is left of them falls.
-use Rattle.std.proofs.Common.{◌≡◌, ◌-◌, ◌≤◌, length, take}
+-- What the loop of `copy` keeps: the first k cells were copied.
+use Rattle.std.proofs.Common.{◌≡◌, length, take}
 use Rattle.intelhex.proofs.texts.copy.Given as goal
 
 abbrev pub invariant-loop-k : goal.invariant-loop-k
 invariant-loop-k l = record {
-  inside : l.k ≤ length l.initial.image;
   copied : take l.k l.image ≡ take l.k l.cells;
   same : length l.image ≡ length l.initial.image;
 }
-
-abbrev pub decreases-loop-k : goal.decreases-loop-k
-decreases-loop-k l = length l.initial.image - l.k

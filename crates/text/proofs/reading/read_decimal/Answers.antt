@@ -1,38 +1,42 @@
 -- `read_decimal` meets its contract: a lone 0, or digits that come to a number of 32 bits, and the line feed behind them.
+use mathlib.Core.List.{[], ◌∷◌}
 use native.Mathlib.Omega.{arith}
-use Rattle.text.proofs.Finding.{inside}
-use Rattle.text.proofs.ReadDecimals.{next_stands, too_large, no_digit_lem, decimal_closed, zero_closed}
+use Rattle.std.specs.Prelude.{Some, None}
+use Rattle.std.proofs.lemmas.Slice.Eq.{strip_prefix_is}
+use Rattle.std.proofs.lemmas.Bool.Decides.{Decides-eqb}
+use Rattle.text.specs.Text.{line_feed}
+use Rattle.text.proofs.ReadDecimals.{first_read, read_more, too_large, no_digit, decimal_nowhere, zero_found, zero_nowhere}
 use Rattle.text.proofs.reading.read_decimal.Goals as goal
 
-pub returns-then-stands : goal.returns-then-stands
-returns-then-stands c = zero_closed _ _ (c.stands.ensures.there c.if-stands.true) c.if_closed.ensures
+pub returns-in_err-value : goal.returns-in_err-value
+returns-in_err-value c = rw c.from_residual.ensures (no_digit c.in_err-value.ensures)
 
-pub returns-then-value-gt-LAST : goal.returns-then-value-gt-LAST
-returns-then-value-gt-LAST c =
-    let inv = c.loop-digit.invariant in
-    too_large inv.read inv.behind c.loop-digit-test.true c.if-value-gt-LAST.true c.nothing.ensures
-
-pub loop-digit-preserved : goal.loop-digit-preserved
-loop-digit-preserved c =
-    let inv = c.loop-digit.invariant in
-    let (behind, few) = c.digit_at-digit-in-loop-digit.ensures in
-    record {
-      read = record {
-        within = inside _ _ (inv.behind.there c.loop-digit-test.true);
-        small = omega (arith, c.if-value-gt-LAST.false);
-        stands = next_stands inv.read inv.behind c.loop-digit-test.true;
-        lead = inv.read.lead;
-      };
-      behind = behind;
-      few = few;
-    }
+pub returns-in_err-strip_prefix : goal.returns-in_err-strip_prefix
+returns-in_err-strip_prefix c =
+    rw c.from_residual-in_err-strip_prefix.ensures
+    (zero_nowhere c.in_ok-value.ensures c.if-value-eq0.true (strip_prefix_is Decides-eqb _ (line_feed ∷ []) None c.in_err-strip_prefix.ensures.cases))
 
 pub returns-then-value-eq0 : goal.returns-then-value-eq0
 returns-then-value-eq0 c =
-    let inv = c.loop-digit.invariant in
-    no_digit_lem inv.read inv.behind c.loop-digit-test.false c.if-value-eq0.true c.nothing-then-value-eq0.ensures
+    zero_found c.in_ok-value.ensures c.if-value-eq0.true
+    (strip_prefix_is Decides-eqb _ (line_feed ∷ []) (Some c.in_ok-strip_prefix.field-0) c.in_ok-strip_prefix.ensures.cases)
 
-pub returns : goal.returns
-returns c =
-    let inv = c.loop-digit.invariant in
-    decimal_closed inv.read inv.behind c.loop-digit-test.false (omega (arith, c.if-value-eq0.false)) c.if_closed-2.ensures
+pub loop-digit-init : goal.loop-digit-init
+loop-digit-init c = first_read c.in_ok-value.ensures (omega (arith, c.if-value-eq0.false))
+
+pub returns-in_err-tens : goal.returns-in_err-tens
+returns-in_err-tens c = rw c.from_residual-in_err-tens.ensures (too_large c.loop-digit.invariant c.in-Some.ensures (omega (arith, c.in_err-tens.ensures)))
+
+pub returns-in_err-value-2 : goal.returns-in_err-value-2
+returns-in_err-value-2 c =
+    rw c.from_residual-in_err-value-2.ensures (too_large c.loop-digit.invariant c.in-Some.ensures (omega (arith, c.in_ok-tens.ensures, c.in_err-value-2.ensures)))
+
+pub loop-digit-preserved : goal.loop-digit-preserved
+loop-digit-preserved c =
+    read_more c.loop-digit.invariant c.in-Some.ensures (omega (arith, c.in_ok-tens.ensures, c.in_ok-value-2.ensures)) (omega (arith, c.in_ok-value-2.ensures))
+
+pub returns-in_err-strip_prefix-2 : goal.returns-in_err-strip_prefix-2
+returns-in_err-strip_prefix-2 c =
+    rw c.from_residual-in_err-strip_prefix-2.ensures
+    (decimal_nowhere c.loop-digit.invariant c.in_default.ensures
+    (strip_prefix_is Decides-eqb _ (line_feed ∷ []) None c.in_err-strip_prefix-2.ensures.cases))

@@ -14,7 +14,7 @@ abbrev line : List ℕ → List ℕ → ℕ → List ℕ
 line codes counts = line_at (λ i. get_or codes i 0) (λ i. get_or counts i 0)
 
 pub loop-done-init : goal.loop-done-init
-loop-done-init c = record { most = zero-le; ends = zero-le; wrote = wrote_no_line _ _ zero-le }
+loop-done-init c = record { ends = zero-le; wrote = wrote_no_line _ _ zero-le }
 
 pub loop-done-preserved : goal.loop-done-preserved
 loop-done-preserved c =
@@ -23,7 +23,6 @@ loop-done-preserved c =
     let this = at line [] images c.loop-done.done c.loop-done-test.true in
     let ends : c.write_line-next.result ≤ (c.loop-done.done + 1) * line_longest = omega (arith, c.write_line-next.ensures.1) in
     record {
-      most = omega arith;
       ends = ends;
       wrote =
           wrote_line (tabulate line 0 images) c.loop-done.done (omega (arith, long line 0 images)) (omega (arith, ends))

@@ -3,4 +3,4 @@ use Rattle.text.proofs.Writing.{wrote_more}
 use Rattle.tray.proofs.lines.write_field.Goals as goal
 
 pub returns : goal.returns
-returns c = wrote_more _ _ c.requires c.write_bytes-next.ensures c.write_decimal.ensures
+returns g c = wrote_more _ _ c.requires c.write_bytes-next.ensures c.write.ensures

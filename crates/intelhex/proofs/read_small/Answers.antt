@@ -1,7 +1,0 @@
--- `read_small` meets its contract: as many of 256 cells are lent as the image has bytes, and none has its byte yet.
-use Rattle.std.proofs.Common.{arith}
-use Rattle.intelhex.proofs.Taken.{blank_front}
-use Rattle.intelhex.proofs.read_small.Goals as goal
-
-pub read_with-requires : goal.read_with-requires
-read_with-requires c = (omega arith, blank_front _ 256 c.requires)
