@@ -1,7 +1,6 @@
 #!/bin/sh
 # tests/promised.sh: every public function of a library crate, and every method of a public trait, has an `ensures`, and it is proved that its
-# contract leaves one answer, except of `read_full`, since what an input gives is fixed by nothing; what the archive for C exports is a
-# function of the library lyre, with its arguments and its clauses; no door of the counter, of intelhex, of card, of dumps or for C has a
+# contract leaves one answer; what the archive for C exports is a function of the library lyre, with its arguments and its clauses; no door of the counter, of intelhex, of card, of dumps or for C has a
 # `requires`; no definition but the inside's own rests on a specs/Inside.antt; and only the cells index lives, so that what they promise is
 # all that the crates above them know of lives.
 set -eu
@@ -45,7 +44,7 @@ public() {
 public | grep -v ensures && { echo 'promised: these promise nothing'; exit 1; }
 heads crates/counter/src/doors.rt crates/counter/src/trials.rt crates/intelhex/src/lib.rt crates/card/src/lib.rt crates/dumps/src/*.rt \
     crates/lyre/src/lib.rt crates/lyre_c/src/lib.rt | grep requires && { echo 'promised: these ask something'; exit 1; }
-public | grep -v '^crates/console/src/lib\.rt: read_full ' | awk '{ print $2 }' | while read -r name; do
+public | awk '{ print $2 }' | while read -r name; do
     # NoSecond.antt calls the module of `open` opens, and what is generic stands in brackets with what it is said of
     grep -Eq "^ *pub ${name}_one : Sole 𝓤 \(?${name}s?\.ended " crates/sole/proofs/NoSecond.antt || echo "$name"
 done | grep . && { echo 'promised: of these it is not proved that they leave one answer'; exit 1; }
@@ -58,4 +57,4 @@ diff "$work/library" "$work/archive" || { echo 'promised: the archive (>) promis
 grep -l 'specs\.Inside' crates/*/specs/*.antt && { echo 'promised: these rest on the inside'; exit 1; }
 # chips.rt makes the chips of the cases, lives and all.
 grep -rnE 'lives *\[' crates/*/src | grep -Ev '^crates/(cells/|cases/src/chips\.rt:)' && { echo 'promised: these index lives'; exit 1; }
-echo 'promised: every public function of a library promises, and but for read_full leaves one answer; no door asks, and only the cells index lives'
+echo 'promised: every public function of a library promises and leaves one answer, no door asks, and only the cells index lives'

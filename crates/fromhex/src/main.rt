@@ -9,9 +9,8 @@ ghost use Rattle.std.specs.Prelude.{◌≤◌, ◌≡◌, length};
 ghost use Rattle.intelhex.specs.Doors.{read_of};
 ghost use Rattle.fromhex.specs.Refusals.{Said, longest};
 
-use console::read_full;
 use std::env::Env;
-use std::io::Print;
+use std::io::{Print, Read};
 
 // Reads a text into an image, writes the line that refuses it, if one does, at the start of another text, and answers how long the line is.
 fn convert(text: &[u8], image: &mut [u8], line: &mut [u8]) -> Option<usize>
@@ -19,6 +18,24 @@ fn convert(text: &[u8], image: &mut [u8], line: &mut [u8]) -> Option<usize>
     ensures { (image.new ≡ (read_of text.now image.old).left) × Said line.old (read_of text.now image.old).answer result line.new }
 {
     refusals::fill(intelhex::read_image(text, image), line)
+}
+
+// Reads until a buffer is full, the input ends or a read fails, and answers how many bytes stand at the buffer's start.
+// Each program has its own: a public one would owe a theorem that it leaves one answer, and what an input gives is fixed by nothing.
+fn read_full(input: &mut impl Read, buffer: &mut [u8]) -> usize
+    ensures { result ≤ length buffer.new }
+{
+    let mut done = 0;
+    while done < buffer.len() {
+        let Ok(more) = input.read(&mut buffer[done..]) else {
+            break;
+        };
+        if more == 0 {
+            break;
+        }
+        done += more;
+    }
+    done
 }
 
 // The argument, or none of it where it has more than 4096 digits, which is refused as 0 is.

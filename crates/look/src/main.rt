@@ -11,9 +11,8 @@ ghost use Rattle.counter.specs.Doors.{read_answer_of};
 ghost use Rattle.text.specs.Text.{Wrote};
 ghost use Rattle.look.specs.Look.{longest, look_text};
 
-use console::read_full;
 use counter::places::Places;
-use std::io::Print;
+use std::io::{Print, Read};
 
 // Reads an image with setting A, writes what it reads as at the start of a text, and answers how long
 // that is.
@@ -22,6 +21,24 @@ fn look(image: &[u8], text: &mut [u8]) -> usize
     ensures { Wrote text.old 0 (look_text (read_answer_of two setting_a image.now)) result text.new }
 {
     lines::fill(counter::doors::read(image, Places::SETTING_A), text)
+}
+
+// Reads until a buffer is full, the input ends or a read fails, and answers how many bytes stand at the buffer's start.
+// Each program has its own: a public one would owe a theorem that it leaves one answer, and what an input gives is fixed by nothing.
+fn read_full(input: &mut impl Read, buffer: &mut [u8]) -> usize
+    ensures { result ≤ length buffer.new }
+{
+    let mut done = 0;
+    while done < buffer.len() {
+        let Ok(more) = input.read(&mut buffer[done..]) else {
+            break;
+        };
+        if more == 0 {
+            break;
+        }
+        done += more;
+    }
+    done
 }
 
 // An image of more than 4096 bytes is refused whatever it holds, so no more than 4097 are read. Lines that cannot be written are lost

@@ -13,11 +13,10 @@ ghost use Rattle.card.specs.Answers.{chip_refused, chip_answer_of, answered_chip
 ghost use Rattle.card.specs.Doors.{Told};
 
 use card::ChipAnswer;
-use console::read_full;
 use counter::places::Places;
 use std::env::Env;
 use std::fs::{File, Files};
-use std::io::Print;
+use std::io::{Print, Read};
 
 // What the card that a text shows answers at the count of an image of setting A.
 fn answer(text: &[u8], image: &[u8]) -> ChipAnswer
@@ -30,6 +29,24 @@ fn answer(text: &[u8], image: &[u8]) -> ChipAnswer
             answer: Err(refusal),
         },
     }
+}
+
+// Reads until a buffer is full, the input ends or a read fails, and answers how many bytes stand at the buffer's start.
+// Each program has its own: a public one would owe a theorem that it leaves one answer, and what an input gives is fixed by nothing.
+fn read_full(input: &mut impl Read, buffer: &mut [u8]) -> usize
+    ensures { result ≤ length buffer.new }
+{
+    let mut done = 0;
+    while done < buffer.len() {
+        let Ok(more) = input.read(&mut buffer[done..]) else {
+            break;
+        };
+        if more == 0 {
+            break;
+        }
+        done += more;
+    }
+    done
 }
 
 // Prints what a card answers, and says what a refusal means. Lines that are cut short must not pass for whole; where what is said cannot be

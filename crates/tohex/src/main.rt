@@ -7,8 +7,7 @@ ghost use Rattle.intelhex.specs.Doors.{sized};
 ghost use Rattle.text.specs.Text.{Wrote};
 ghost use Rattle.tohex.specs.Told.{told_of, longest};
 
-use console::read_full;
-use std::io::Print;
+use std::io::{Print, Read};
 
 // How long the text of an image is at most.
 const LONGEST: usize = 11276;
@@ -27,6 +26,24 @@ fn tell(image: &[u8], text: &mut [u8]) -> Result<usize, usize>
             Err(end)
         }
     }
+}
+
+// Reads until a buffer is full, the input ends or a read fails, and answers how many bytes stand at the buffer's start.
+// Each program has its own: a public one would owe a theorem that it leaves one answer, and what an input gives is fixed by nothing.
+fn read_full(input: &mut impl Read, buffer: &mut [u8]) -> usize
+    ensures { result ≤ length buffer.new }
+{
+    let mut done = 0;
+    while done < buffer.len() {
+        let Ok(more) = input.read(&mut buffer[done..]) else {
+            break;
+        };
+        if more == 0 {
+            break;
+        }
+        done += more;
+    }
+    done
 }
 
 // An image of more than 4096 bytes is refused whatever it holds, so no more than 4097 are read. A text that is cut short must not pass for

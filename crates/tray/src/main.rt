@@ -8,9 +8,8 @@ ghost use Rattle.std.specs.Prelude.{◌≤◌, ◌<◌, ◌≡◌, length, IfErr
 ghost use Rattle.text.specs.Text.{Wrote};
 ghost use Rattle.tray.specs.Prints.{images_of, told_of, longest};
 
-use console::read_full;
 use counter::places::Places;
-use std::io::Print;
+use std::io::{Print, Read};
 
 // The length of an image of setting A.
 const LONG: usize = 129;
@@ -30,6 +29,24 @@ fn tell(tray: &[u8], text: &mut [u8]) -> Result<usize, usize>
         return Err(end);
     }
     Ok(lines::fill(&codes, &counts, tray.len() / LONG, text))
+}
+
+// Reads until a buffer is full, the input ends or a read fails, and answers how many bytes stand at the buffer's start.
+// Each program has its own: a public one would owe a theorem that it leaves one answer, and what an input gives is fixed by nothing.
+fn read_full(input: &mut impl Read, buffer: &mut [u8]) -> usize
+    ensures { result ≤ length buffer.new }
+{
+    let mut done = 0;
+    while done < buffer.len() {
+        let Ok(more) = input.read(&mut buffer[done..]) else {
+            break;
+        };
+        if more == 0 {
+            break;
+        }
+        done += more;
+    }
+    done
 }
 
 // A tray has at most 8256 bytes, so no more than 8257 are read. Lines that are cut short must not pass for whole; where the line that says
