@@ -4,7 +4,7 @@ use mathlib.Core.Path.{◌≡◌, refl}
 use mathlib.Core.Bool.{Bool, true, false, cond}
 use mathlib.Core.List.{List, [], ◌++◌}
 use native.Mathlib.Omega.{arith}
-use borrow.Author.Tests.{eqb-true}
+use borrow.Author.Tests.{ne_eqb, eqb-true}
 use lib.Dec.{eqb}
 use lib.ListN.{length, length-append}
 use Rattle.intelhex.specs.declared.Answer.{Answer}
@@ -47,11 +47,16 @@ unfolding refusal_of
 nothing_said a read = rw read
 
 -- where a line of the text is to blame, the words stand behind its place
-pub said_of_line : (fault : Fault) (line : ℕ) → refusal_of (refusal_told (AtLine fault line)) ≡ place_of line ++ words_of (number_of fault)
+pub said_of_line : (a : Answer) → (a.code ≡ 0 → ⊥) → (a.code ≡ 7 → ⊥) → refusal_of a ≡ place_of a.line ++ words_of a.code
 unfolding refusal_of
-said_of_line Malformed line = refl
-said_of_line Checksum line = refl
-said_of_line Kind line = refl
-said_of_line PastEnd line = refl
-said_of_line Twice line = refl
-said_of_line Missing line = refl
+said_of_line a refused sized = rw (ne_eqb a.code 0 refused, ne_eqb a.code 7 sized)
+
+-- and so they do of a fault
+pub said_of_fault : (fault : Fault) (line : ℕ) → refusal_of (refusal_told (AtLine fault line)) ≡ place_of line ++ words_of (number_of fault)
+unfolding refusal_of
+said_of_fault Malformed line = refl
+said_of_fault Checksum line = refl
+said_of_fault Kind line = refl
+said_of_fault PastEnd line = refl
+said_of_fault Twice line = refl
+said_of_fault Missing line = refl

@@ -2,7 +2,7 @@
 use Rattle.std.proofs.Common.{arith}
 use Rattle.text.proofs.Writing.{wrote_within, wrote_on}
 use Rattle.fromhex.specs.Refusals.{words_of, refusal_of}
-use Rattle.fromhex.proofs.Says.{said_of_line}
+use Rattle.fromhex.proofs.Says.{said_of_fault}
 use Rattle.fromhex.proofs.refusals.write_refusal.Goals as goal
 
 pub returns-in-AtLine : goal.returns-in-AtLine
@@ -10,7 +10,7 @@ returns-in-AtLine c =
     let arm = c.in-AtLine in
     let second = rw c.words.ensures.0 at c.write_bytes.ensures in
     let within = wrote_within (omega (arith, c.write_place-place.ensures.1)) second in
-    rw (arm.is, said_of_line arm.fault arm.line) (wrote_on _ _ (omega (arith, within)) c.write_place-place.ensures.0 second)
+    rw (arm.is, said_of_fault arm.fault arm.line) (wrote_on _ _ (omega (arith, within)) c.write_place-place.ensures.0 second)
 
 pub returns-in-BadLength : goal.returns-in-BadLength
 unfolding refusal_of words_of
