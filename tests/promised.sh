@@ -1,8 +1,8 @@
 #!/bin/sh
-# tests/promised.sh: every public function of a library crate, and every method of a public trait, has an `ensures`, and it is proved that its
-# contract leaves one answer; what the archive for C exports is a function of the library lyre, with its arguments and its clauses; no door of the counter, of intelhex, of card, of dumps or for C has a
-# `requires`; no definition but the inside's own rests on a specs/Inside.antt; and only the cells index lives, so that what they promise is
-# all that the crates above them know of lives.
+# tests/promised.sh: every public function of a library crate, every method of a public trait, and every conversion by From has a promise, and it
+# is proved that it leaves one answer; what the archive for C exports is a function of the library lyre, with its arguments and its clauses;
+# no door of the counter, of intelhex, of card, of dumps or for C has a `requires`; no definition but the inside's own rests on a
+# specs/Inside.antt; and only the cells index lives, so that what they promise is all that the crates above them know of lives.
 set -eu
 cd "$(dirname "$0")/.."
 
@@ -17,6 +17,27 @@ heads() {
         open && /requires/ { says = says " requires" }
         open && /ensures/ { says = says " ensures" }
         open && ($0 ~ /^ *\{$/ || ($0 ~ /\{$/ && $0 !~ /(requires|ensures)/) || (trait && /;$/)) { print FILENAME ": " name says; open = 0 }
+    ' "$@"
+}
+
+# conversions FILE..: a line for each From: its file, a name of both types as in u32_from_refusal, and ensures where its clause is there
+conversions() {
+    awk '
+        # Of a path of three words the first is left out, as the prover leaves it out of the names of contracts.
+        function named(head,    at) {
+            at = index(head, "> for ")
+            head = substr(head, at + 6, length(head) - at - 7) " from " substr(head, 11, at - 11)
+            gsub(/\(\)/, "unit", head)
+            while (match(head, /[a-z_]+::[a-z_]+::/))
+                head = substr(head, 1, RSTART - 1) substr(head, RSTART + index(substr(head, RSTART), "::") + 1)
+            while (match(head, /[a-z0-9][A-Z]/)) head = substr(head, 1, RSTART) "_" substr(head, RSTART + 1)
+            gsub(/[^A-Za-z0-9]+/, "_", head)
+            sub(/_$/, "", head)
+            return tolower(head)
+        }
+        /^impl From</ { name = named($0); says = "" }
+        name && /ghost from_gives = / { says = " ensures" }
+        name && /^}/ { print FILENAME ": " name says; name = "" }
     ' "$@"
 }
 
@@ -36,7 +57,7 @@ libraries() {
 
 public() {
     libraries | while read -r crate; do
-        [ ! -f "crates/$crate/src/lib.rt" ] || heads "crates/$crate"/src/*.rt
+        [ ! -f "crates/$crate/src/lib.rt" ] || { heads "crates/$crate"/src/*.rt && conversions "crates/$crate"/src/*.rt; }
     done
 }
 

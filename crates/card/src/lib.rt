@@ -116,23 +116,19 @@ pub fn answer_at(card: Card, count: u32) -> Result<Wear, Refusal>
 }
 
 // A card with no runs.
-fn empty() -> Card
-    ensures { result ≡ empty }
-{
-    Card {
-        fitted: 0,
-        allowed: 0,
-        runs: 0,
-        speeds: [0; 64],
-        turns: [0; 64],
-    }
-}
+const EMPTY: Card = Card {
+    fitted: 0,
+    allowed: 0,
+    runs: 0,
+    speeds: [0; 64],
+    turns: [0; 64],
+};
 
 // Reads a text as a card.
 pub fn read_card(text: &[u8]) -> Result<Card, Refusal>
     ensures { Told text.now read_of (unread 5) (card_read result) }
 {
-    let mut card = empty();
+    let mut card = EMPTY;
     let Some(()) = read_whole(text, &mut card) else {
         return Err(Refusal::NotInForm);
     };
@@ -144,7 +140,7 @@ pub fn read_card(text: &[u8]) -> Result<Card, Refusal>
 pub fn answer_of_text(text: &[u8], count: u32) -> Result<Wear, Refusal>
     ensures { Told text.now (λ c. answer_of (length c.speeds) c count) (refused 5) (answered result) }
 {
-    let mut card = empty();
+    let mut card = EMPTY;
     match read_whole(text, &mut card) {
         Some(()) => card.held().answer(count),
         None => Err(Refusal::NotInForm),

@@ -27,11 +27,13 @@ pub(crate) fn bits_of(image: &[u8], p: Places, found: Result<Count, Refusal>) ->
     requires { (verdict_in found ≡ verdict_of two p image.now) × ExactIf two p found image.now }
     ensures { result ≡ bits_of two p image.now }
 {
-    let Ok(read) = found else {
-        return [0u32; 8];
-    };
-    if read.exact {
-        return [0u32; 8];
+    match found {
+        Ok(read) => {
+            if read.exact {
+                return [0u32; 8];
+            }
+            counted(image, Map::at(p.map).cells(image))
+        }
+        Err(_) => [0u32; 8],
     }
-    counted(image, Map::at(p.map).cells(image))
 }

@@ -84,7 +84,8 @@ impl Gap {
         }
     }
 
-    // Whether an address may be tried as a spare for a slot of a kind.
+    // Whether an address may be tried as a spare for a slot of a kind. By three arms: with one test of both for a High slot, reading a map
+    // whose order has to be looked at takes a quarter more instructions.
     #[tactic(auto, unfolding(crate::specs::Spares::may_try))]
     pub(crate) fn may_try(self, p: Places, kind: Kind, a: usize) -> bool
         ensures { result ≡ may_try p kind self a }
@@ -93,7 +94,8 @@ impl Gap {
             return false;
         }
         match kind {
-            Kind::High => a <= 255 && a < self.low,
+            Kind::High if 255 < a => false,
+            Kind::High => a < self.low,
             Kind::Low => self.high <= a,
         }
     }

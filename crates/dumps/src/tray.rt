@@ -53,7 +53,10 @@ pub fn read_tray(
     ensures { outcome (tray_code result) counts.new codes.new ≡ tray_of (read_of two p) each tray.now counts.old codes.old }
 {
     let images = images_in(each, tray.len());
-    if images < 1 || counts.len() < images || codes.len() < images {
+    if images < 1 || counts.len() < images {
+        return Err(NotATray);
+    }
+    if codes.len() < images {
         return Err(NotATray);
     }
     fill(tray, each, images, p, counts, codes);

@@ -85,11 +85,23 @@ use Rattle.lyre.specs.contracts.lyre_hex_read
 use Rattle.lyre.specs.contracts.lyre_card_at
 use Rattle.lyre.specs.contracts.lyre_card_write
 use Rattle.lyre.specs.contracts.lyre_tray
+use Rattle.lyre.specs.contracts.AnswerFromVerdictAnswer.from as answer_from_verdict_answer
+use Rattle.lyre.specs.contracts.ReadAnswerFromDoorsReadAnswer.from as read_answer_from_doors_read_answer
+use Rattle.lyre.specs.contracts.PartFromDoorsPart.from as part_from_doors_part
+use Rattle.lyre.specs.contracts.KeptFromKeptKept.from as kept_from_kept_kept
+use Rattle.lyre.specs.contracts.RoomFromLeftRoom.from as room_from_left_room
+use Rattle.lyre.specs.contracts.HexFromIntelhexAnswer.from as hex_from_intelhex_answer
+use Rattle.lyre.specs.contracts.CardFromResultCardWearCardRefusal.from as card_from_result_card_wear_card_refusal
+use Rattle.lyre.specs.contracts.TextFromResultUsizeCardRefusal.from as text_from_result_usize_card_refusal
 use Rattle.intelhex.specs.declared.Answer as hex
 use Rattle.intelhex.specs.Doors.{Outcome as Read, outcome as comes_to}
 use Rattle.intelhex.proofs.Told.{written_alike, read_alike}
 use Rattle.intelhex.specs.contracts.write_image
 use Rattle.intelhex.specs.contracts.read_image
+use Rattle.intelhex.specs.contracts.U32FromFault.from as u32_from_fault
+use Rattle.intelhex.specs.contracts.AnswerFromRefusal.from as answer_from_refusal
+use Rattle.intelhex.specs.contracts.AnswerFromResultUsizeRefusal.from as answer_from_result_usize_refusal
+use Rattle.intelhex.specs.contracts.AnswerFromResultUnitRefusal.from as answer_from_result_unit_refusal
 use Rattle.card.specs.Answers as card
 use Rattle.card.specs.Doors.{Written, Outcome, left_by}
 use Rattle.card.proofs.RoundTrip.{told_one}
@@ -100,6 +112,7 @@ use Rattle.card.specs.contracts.read_card
 use Rattle.card.specs.contracts.answer_at
 use Rattle.card.specs.contracts.answer_of_text
 use Rattle.card.specs.contracts.answer_of_chip
+use Rattle.card.specs.contracts.U32FromRefusal.from as u32_from_refusal
 use Rattle.dumps.specs.Tray.{Outcome as Filling, outcome, tray_code}
 use Rattle.dumps.specs.declared.tray.NotATray.{NotATray}
 use Rattle.dumps.specs.contracts.tray.read_tray
@@ -115,7 +128,7 @@ use Rattle.text.specs.contracts.write_signed
 use Rattle.text.specs.contracts.write_line
 use Rattle.text.specs.contracts.Decimal.write
 use Rattle.card.specs.declared.Refusal.{Refusal}
-use Rattle.std.specs.Prelude.{Result, Ok, Err, cond, eqb}
+use Rattle.std.specs.Prelude.{Result, Ok, Err, cond, eqb, []}
 use Prim.Native.Nat.{ℕ}
 use mathlib.Core.List.{List}
 
@@ -138,10 +151,13 @@ room_out r = record { high = r.high; low = r.low }
 abbrev kept_given : KeptOutcome → keeping.Kept
 kept_given v = record { answer = v.gives.says; ends = v.ends }
 
+abbrev kept_laid : keeping.Kept → plain_kept.Kept
+kept_laid k =
+    let a = k.answer in
+    record { code = a.code; count = a.count; lag = a.lag; place = a.place; writes = a.writes; tried = a.tried; high = k.ends.highest; low = k.ends.lowest }
+
 abbrev kept_out : KeptOutcome → plain_kept.Kept
-kept_out v =
-    let a = v.gives.says in
-    record { code = a.code; count = a.count; lag = a.lag; place = a.place; writes = a.writes; tried = a.tried; high = v.ends.highest; low = v.ends.lowest }
+kept_out v = kept_laid (kept_given v)
 
 abbrev hex_out : hex.Answer → plain_hex.Hex
 hex_out a = record { code = a.code; line = a.line; length = a.length }
@@ -375,11 +391,48 @@ module _ {M : Type 1} (𝓤 : Ura M) where
     pub lyre_card_write_one : Sole 𝓤 lyre_card_write.ended (lyre_card_write.clauses 𝓛 mem run) (λ κs r at. filled r (at.1.1.1.1.0.now))
     lyre_card_write_one _ _ _ _ _ _ _ = same (λ v. filled (text_out v.written) v.after)
 
+    -- what is laid out for C
+    pub answer_from_verdict_answer_one : Sole 𝓤 answer_from_verdict_answer.ended (answer_from_verdict_answer.clauses 𝓛 mem run) (λ κs r at. r)
+    answer_from_verdict_answer_one _ _ _ _ _ _ _ = same answer_out
+
+    pub read_answer_from_doors_read_answer_one : Sole 𝓤 read_answer_from_doors_read_answer.ended (read_answer_from_doors_read_answer.clauses 𝓛 mem run) (λ κs r at. r)
+    read_answer_from_doors_read_answer_one _ _ _ _ _ _ _ = same read_answer_out
+
+    pub part_from_doors_part_one : Sole 𝓤 part_from_doors_part.ended (part_from_doors_part.clauses 𝓛 mem run) (λ κs r at. r)
+    part_from_doors_part_one _ _ _ _ _ _ _ = same part_out
+
+    pub kept_from_kept_kept_one : Sole 𝓤 kept_from_kept_kept.ended (kept_from_kept_kept.clauses 𝓛 mem run) (λ κs r at. r)
+    kept_from_kept_kept_one _ _ _ _ _ _ _ = same kept_laid
+
+    pub room_from_left_room_one : Sole 𝓤 room_from_left_room.ended (room_from_left_room.clauses 𝓛 mem run) (λ κs r at. r)
+    room_from_left_room_one _ _ _ _ _ _ _ = same room_out
+
+    pub hex_from_intelhex_answer_one : Sole 𝓤 hex_from_intelhex_answer.ended (hex_from_intelhex_answer.clauses 𝓛 mem run) (λ κs r at. r)
+    hex_from_intelhex_answer_one _ _ _ _ _ _ _ = same hex_out
+
+    pub card_from_result_card_wear_card_refusal_one : Sole 𝓤 card_from_result_card_wear_card_refusal.ended (card_from_result_card_wear_card_refusal.clauses 𝓛 mem run) (λ κs r at. r)
+    card_from_result_card_wear_card_refusal_one _ _ _ _ _ _ _ = same card_out
+
+    pub text_from_result_usize_card_refusal_one : Sole 𝓤 text_from_result_usize_card_refusal.ended (text_from_result_usize_card_refusal.clauses 𝓛 mem run) (λ κs r at. r)
+    text_from_result_usize_card_refusal_one _ _ _ _ _ _ _ = both (λ one two. ap (λ (o : Outcome). text_out o.written) (one [] ∙ sym (two [])))
+
     pub write_image_one : Sole 𝓤 write_image.ended (write_image.clauses 𝓛 mem run) (λ κs r at. filled r (at.1.0.now))
     write_image_one _ _ _ one two _ _ = both (one_result (written_alike one two))
 
     pub read_image_one : Sole 𝓤 read_image.ended (read_image.clauses 𝓛 mem run) (λ κs r at. filled r (at.1.0.now))
     read_image_one _ _ _ one two _ _ = both (one_result (read_alike one two))
+
+    pub u32_from_fault_one : Sole 𝓤 u32_from_fault.ended (u32_from_fault.clauses 𝓛 mem run) (λ κs r at. r)
+    u32_from_fault_one _ _ _ _ _ _ _ = same (λ r. r)
+
+    pub answer_from_refusal_one : Sole 𝓤 answer_from_refusal.ended (answer_from_refusal.clauses 𝓛 mem run) (λ κs r at. r)
+    answer_from_refusal_one _ _ _ _ _ _ _ = same (λ r. r)
+
+    pub answer_from_result_usize_refusal_one : Sole 𝓤 answer_from_result_usize_refusal.ended (answer_from_result_usize_refusal.clauses 𝓛 mem run) (λ κs r at. r)
+    answer_from_result_usize_refusal_one _ _ _ _ _ _ _ = same (λ r. r)
+
+    pub answer_from_result_unit_refusal_one : Sole 𝓤 answer_from_result_unit_refusal.ended (answer_from_result_unit_refusal.clauses 𝓛 mem run) (λ κs r at. r)
+    answer_from_result_unit_refusal_one _ _ _ _ _ _ _ = same (λ r. r)
 
     pub write_byte_one : Sole 𝓤 write_byte.ended (write_byte.clauses 𝓛 mem run) (λ κs r at. filled r (at.1.0.now))
     write_byte_one _ _ _ _ _ _ _ = both one_text
@@ -425,6 +478,9 @@ module _ {M : Type 1} (𝓤 : Ura M) where
 
     pub answer_of_chip_one : Sole 𝓤 answer_of_chip.ended (answer_of_chip.clauses 𝓛 mem run) (λ κs r at. r)
     answer_of_chip_one _ _ _ one two _ _ = both (λ first second. sym (chip_back one) ∙ ap chip_in (first ∙ sym second) ∙ chip_back two)
+
+    pub u32_from_refusal_one : Sole 𝓤 u32_from_refusal.ended (u32_from_refusal.clauses 𝓛 mem run) (λ κs r at. r)
+    u32_from_refusal_one _ _ _ _ _ _ _ = same (λ r. r)
 
     pub read_tray_one : Sole 𝓤 read_tray.ended (read_tray.clauses 𝓛 mem run) (λ κs r at. filled_rows r (at.1.1.1.0.now) (at.1.1.1.1.0.now))
     read_tray_one _ _ _ one two _ _ = both (tray_one one two)

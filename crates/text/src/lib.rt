@@ -49,12 +49,13 @@ pub fn write_decimal(n: u64, text: &mut [u8], at: usize) -> usize
     write_digit(n, text, next)
 }
 
-// How long a plain decimal is.
+// How long a plain decimal is. Of a number of one digit without a logarithm, which takes longer than the test.
 #[tactic(auto, using(crate::proofs::Decimals::length_power, crate::proofs::Decimals::length_small))]
 pub fn decimal_length(n: u64) -> usize
     ensures { (result ≡ length (decimal n)) × (result ≤ 20) }
 {
-    n.checked_ilog10().map_or(1, |power| power as usize + 1)
+    let power = if n <= 9 { 0 } else { n.ilog10() };
+    power as usize + 1
 }
 
 // Writes a plain decimal, with a minus sign where negative.

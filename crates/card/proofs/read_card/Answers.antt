@@ -3,7 +3,12 @@ use mathlib.Core.Path.{refl}
 use Rattle.card.proofs.DoorLaws.{told_refused, told_read}
 use Rattle.std.proofs.lemmas.Result.{err_from_is_err_and}
 use Rattle.card.proofs.Refused.{some_number}
+use Rattle.card.specs.Doors.{in_places}
 use Rattle.card.proofs.read_card.Goals as goal
+
+pub read_whole-requires : goal.read_whole-requires
+unfolding in_places
+read_whole-requires c = refl
 
 pub returns-in_err-within_limits : goal.returns-in_err-within_limits
 returns-in_err-within_limits c =

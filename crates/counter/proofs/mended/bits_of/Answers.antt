@@ -8,9 +8,6 @@ use Rattle.counter.proofs.GoodVerdicts.{cells_good}
 use Rattle.counter.proofs.MendedBits.{bits_good, bits_refused, bits_held}
 use Rattle.counter.proofs.mended.bits_of.Goals as goal
 
-pub returns-in_default : goal.returns-in_default
-returns-in_default c = sym (bits_refused two _ _ (sym (rw c.in_default.is at c.requires.0)))
-
 pub returns-then-read : goal.returns-then-read
 returns-then-read c =
     let found = rw c.in-Ok.is at c.requires in
@@ -29,9 +26,12 @@ counted-requires c =
     c.cells.ensures ∙ ap (λ (place : ℕ). take (map_cells two) (drop place c.args.image.now)) c.at.ensures in
     rw map (sound_reaches _ (good_placed two _ _ facts.good) facts.sound)
 
-pub returns : goal.returns
-returns c =
+pub returns-else-read : goal.returns-else-read
+returns-else-read c =
     let found = rw c.in-Ok.is at c.requires.0 in
     let map : let s = c.args in c.cells.result.now ≡ map_in two s.p s.image.now =
     c.cells.ensures ∙ ap (λ (place : ℕ). take (map_cells two) (drop place c.args.image.now)) c.at.ensures in
     rw map at c.counted.ensures ∙ sym (bits_good two _ _ (sym found))
+
+pub returns-in-Err : goal.returns-in-Err
+returns-in-Err c = sym (bits_refused two _ _ (sym (rw c.in-Err.is at c.requires.0)))

@@ -50,8 +50,8 @@ behind-done-requires c =
 pub returns-then-is_err : goal.returns-then-is_err
 returns-then-is_err c =
     let code_here = code_right c.args.count c.loop-slot.slot _ _ _ c.gray_of-word.ensures c.nibble_of.ensures c.code_of-byte.ensures in
-    let said = said_as c.in_ok-stored.ensures c.behind-left.ensures.0 c.behind-left.ensures.1 in
-    rw c.behind-done.ensures (left_says c.loop-slot.invariant.rest (store_left_stopped _ _ _ _ _ c.loop-slot-test.true code_here said (sym c.if-is_err.ensures.value)))
+    let told = said_as c.in_ok-stored.ensures c.behind-left.ensures.0 c.behind-left.ensures.1 in
+    rw c.behind-done.ensures (left_says c.loop-slot.invariant.rest (store_left_stopped _ _ _ _ _ c.loop-slot-test.true code_here told (sym c.if-is_err.ensures.value)))
 
 pub loop-slot-preserved : goal.loop-slot-preserved
 loop-slot-preserved c =

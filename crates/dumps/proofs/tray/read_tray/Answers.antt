@@ -13,6 +13,10 @@ pub returns-then-images-lt1 : goal.returns-then-images-lt1
 unfolding tray_of
 returns-then-images-lt1 c = grind (arith, nat_tests)
 
+pub returns-then-codes-images : goal.returns-then-codes-images
+unfolding tray_of
+returns-then-codes-images c = grind (arith, nat_tests)
+
 pub fill-requires : goal.fill-requires
 fill-requires c =
     let images = c.images_in-images.ensures in

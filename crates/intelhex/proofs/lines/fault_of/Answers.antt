@@ -9,7 +9,7 @@ pub returns-then-kind-gt-END : goal.returns-then-kind-gt-END
 unfolding verdict lawful
 returns-then-kind-gt-END c =
     let kind = c.args.kind in
-    rw (ne_eqb kind 0 c.if-kind-eq-DATA.false, ne_eqb kind 1 (λ one. absurd (omega (arith, c.if-kind-gt-END.true, one))), lt-ltb 1 kind c.if-kind-gt-END.true)
+    rw (ne_eqb kind 0 c.if-kind-eq-DATA.false, ne_eqb kind 1 (λ one. absurd (omega (arith, c.if-kind-gt-END.true, one))), lt-ltb 1 kind (omega (arith, c.if-kind-gt-END.true)))
     c.other_fault.ensures
 
 pub returns-then-count-ne0 : goal.returns-then-count-ne0
