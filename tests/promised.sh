@@ -25,6 +25,7 @@ conversions() {
     awk '
         # Of a path of three words the first is left out, as the prover leaves it out of the names of contracts.
         function named(head,    at) {
+            sub(/^impl(<[^>]*>)? From</, "impl From<", head)
             at = index(head, "> for ")
             head = substr(head, at + 6, length(head) - at - 7) " from " substr(head, 11, at - 11)
             gsub(/\(\)/, "unit", head)
@@ -35,7 +36,7 @@ conversions() {
             sub(/_$/, "", head)
             return tolower(head)
         }
-        /^impl From</ { name = named($0); says = "" }
+        /^impl(<[^>]*>)? From</ { name = named($0); says = "" }
         name && /ghost from_gives = / { says = " ensures" }
         name && /^}/ { print FILENAME ": " name says; name = "" }
     ' "$@"

@@ -1,5 +1,5 @@
 -- No second answer: each public function's contract leaves one end (document 01, "What the promises owe", (a)). A theorem is
--- named after its function; they stand crate by crate.
+-- named after its function, or after both types of a conversion; they stand crate by crate.
 use mathlib.Core.Path.{◌≡◌, refl, sym, ap, ◌∙◌}
 use seplogic.Ra.Ura.{Ura}
 use base.Logic.{SProp, ent, emp}
